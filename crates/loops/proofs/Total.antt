@@ -1,0 +1,148 @@
+-- Laws of sums, counts and the greatest: one turn more, bounds, and sums of equal or growing parts.
+use mathlib.Core.Path.{_≡_, refl, sym, ap, ap₂, _∙_}
+use mathlib.Core.Bool.{Bool, true, false}
+use mathlib.Core.Logic.{_≢_, ⊎-elim}
+use Prim.Native.Nat.{ℕ, zero, suc, _+_, max, _<_, _≤_}
+use native.Mathlib.Numerals.{add-one}
+use native.Mathlib.Nat.{add-zero, eq-or-lt-of-le, le-of-suc-le-suc}
+use native.Mathlib.Decide.{decLt, ℕ-discrete}
+use native.Mathlib.Omega.{arith}
+use lib.Dec.{ltb}
+use Rattle.loops.specs.Total.{bit, total, count, greatest}
+
+-- ---- bits
+
+pub bit-le : (b : Bool) → bit b ≤ 1
+bit-le true = omega arith
+bit-le false = omega arith
+
+-- ---- one turn more, as a loop that counts has it
+
+pub total-zero : (f : ℕ → ℕ) → total f 0 ≡ 0
+unfolding total
+total-zero f = refl
+
+pub total-suc : (f : ℕ → ℕ) (n : ℕ) → total f (suc n) ≡ total f n + f n
+unfolding total
+total-suc f n = refl
+
+pub total-more : (f : ℕ → ℕ) (n : ℕ) → total f (n + 1) ≡ total f n + f n
+unfolding total
+total-more f n = rw add-one
+
+pub greatest-zero : (f : ℕ → ℕ) → greatest f 0 ≡ 0
+unfolding greatest
+greatest-zero f = refl
+
+pub greatest-more : (f : ℕ → ℕ) (n : ℕ) → greatest f (n + 1) ≡ max (greatest f n) (f n)
+unfolding greatest
+greatest-more f n = rw add-one
+
+-- ---- sums
+
+-- equal parts, equal sums
+pub total-same : (f g : ℕ → ℕ) (n : ℕ) → ((i : ℕ) → i < n → f i ≡ g i) → total f n ≡ total g n
+unfolding total
+total-same f g zero h = refl
+total-same f g (suc n) h = ap₂ _+_ (total-same f g n (λ i l. h i (omega arith))) (h n (omega arith))
+
+-- the sum of two sums
+pub total-plus : (f g : ℕ → ℕ) (n : ℕ) → total (λ i. f i + g i) n ≡ total f n + total g n
+unfolding total
+total-plus f g zero = refl
+total-plus f g (suc n) = omega (arith, total-plus f g n)
+
+-- a sum of zeros
+pub total-zeros : (f : ℕ → ℕ) (n : ℕ) → ((i : ℕ) → i < n → f i ≡ 0) → total f n ≡ 0
+unfolding total
+total-zeros f zero h = refl
+total-zeros f (suc n) h = omega (arith, total-zeros f n (λ i l. h i (omega arith)), h n (omega arith))
+
+-- smaller parts, smaller sum
+pub total-le : (f g : ℕ → ℕ) (n : ℕ) → ((i : ℕ) → i < n → f i ≤ g i) → total f n ≤ total g n
+unfolding total
+total-le f g zero h = omega arith
+total-le f g (suc n) h = omega (arith, total-le f g n (λ i l. h i (omega arith)), h n (omega arith))
+
+-- parts past m that are 0 add nothing
+pub total-cut : (f : ℕ → ℕ) (m k : ℕ) → ((i : ℕ) → m ≤ i → i < m + k → f i ≡ 0) → total f (m + k) ≡ total f m
+unfolding total
+total-cut f m zero h = ap (total f) (add-zero m)
+total-cut f m (suc k) h =
+    let e : m + suc k ≡ suc (m + k) = omega arith in
+    ap (total f) e ∙ omega (arith, total-cut f m k (λ i l u. h i l (omega arith)), h (m + k) (omega arith) (omega arith))
+
+-- one part that differs
+pub total-other : (f g : ℕ → ℕ) (n j d : ℕ) → j < n → g j ≡ f j + d → ((i : ℕ) → i < n → i ≢ j → g i ≡ f i) → total g n ≡ total f n + d
+unfolding total
+total-other f g zero j d l e h = absurd (omega arith)
+total-other f g (suc n) j d l e h =
+    ⊎-elim
+    (λ (q : j ≡ n). omega (arith, total-same g f n (λ i u. h i (omega arith) (λ r. omega arith)), ap f q, ap g q))
+    (λ (q : j < n). omega (arith, total-other f g n j d q e (λ i u. h i (omega arith)), h n (omega arith) (λ r. omega arith)))
+    (eq-or-lt-of-le (le-of-suc-le-suc l))
+
+-- ---- counts
+
+pub count-le : (p : ℕ → Bool) (n : ℕ) → count p n ≤ n
+unfolding total
+count-le p zero = omega arith
+count-le p (suc n) = omega (arith, count-le p n, bit-le (p n))
+
+-- one that passes is counted
+pub count-some : (p : ℕ → Bool) (n j : ℕ) → j < n → p j ≡ true → 1 ≤ count p n
+unfolding total
+count-some p zero j l t = absurd (omega arith)
+count-some p (suc n) j l t =
+    ⊎-elim
+    (λ (q : j ≡ n). let e : bit (p n) ≡ 1 = ap bit (ap p (sym q) ∙ t) in omega arith)
+    (λ (q : j < n). omega (arith, count-some p n j q t))
+    (eq-or-lt-of-le (le-of-suc-le-suc l))
+
+-- one that fails is missing
+pub count-lt : (p : ℕ → Bool) (n j : ℕ) → j < n → p j ≡ false → count p n < n
+unfolding total
+count-lt p zero j l t = absurd (omega arith)
+count-lt p (suc n) j l t =
+    ⊎-elim
+    (λ (q : j ≡ n). let e : bit (p n) ≡ 0 = ap bit (ap p (sym q) ∙ t) in omega (arith, count-le p n))
+    (λ (q : j < n). omega (arith, count-lt p n j q t, bit-le (p n)))
+    (eq-or-lt-of-le (le-of-suc-le-suc l))
+
+-- none passes
+pub count-none : (p : ℕ → Bool) (n : ℕ) → ((i : ℕ) → i < n → p i ≡ false) → count p n ≡ 0
+count-none p n h = total-zeros (λ i. bit (p i)) n (λ i l. ap bit (h i l))
+
+-- a count of one: two that pass are the same
+pub count-one : (p : ℕ → Bool) (n i j : ℕ) → count p n ≡ 1 → i < n → j < n → p i ≡ true → p j ≡ true → i ≡ j
+unfolding total
+count-one p zero i j e li lj ti tj = absurd (omega arith)
+count-one p (suc n) i j e li lj ti tj =
+    ⊎-elim
+    (λ (qi : i ≡ n).
+    ⊎-elim
+    (λ (qj : j ≡ n). omega arith)
+    (λ (qj : j < n). let b : bit (p n) ≡ 1 = ap bit (ap p (sym qi) ∙ ti) in absurd (omega (arith, count-some p n j qj tj)))
+    (eq-or-lt-of-le (le-of-suc-le-suc lj)))
+    (λ (qi : i < n).
+    ⊎-elim
+    (λ (qj : j ≡ n). let b : bit (p n) ≡ 1 = ap bit (ap p (sym qj) ∙ tj) in absurd (omega (arith, count-some p n i qi ti)))
+    (λ (qj : j < n). count-one p n i j (omega (arith, count-some p n i qi ti)) qi qj ti tj)
+    (eq-or-lt-of-le (le-of-suc-le-suc lj)))
+    (eq-or-lt-of-le (le-of-suc-le-suc li))
+
+-- ---- the greatest
+
+pub greatest-le : (f : ℕ → ℕ) (n m : ℕ) → ((i : ℕ) → i < n → f i ≤ m) → greatest f n ≤ m
+unfolding greatest
+greatest-le f zero m h = omega arith
+greatest-le f (suc n) m h = omega (arith, greatest-le f n m (λ i l. h i (omega arith)), h n (omega arith))
+
+pub greatest-above : (f : ℕ → ℕ) (n i : ℕ) → i < n → f i ≤ greatest f n
+unfolding greatest
+greatest-above f zero i l = absurd (omega arith)
+greatest-above f (suc n) i l =
+    ⊎-elim
+    (λ (q : i ≡ n). let e : f i ≡ f n = ap f q in omega arith)
+    (λ (q : i < n). omega (arith, greatest-above f n i q))
+    (eq-or-lt-of-le (le-of-suc-le-suc l))

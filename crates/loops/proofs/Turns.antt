@@ -1,0 +1,32 @@
+-- Laws of a rule that is applied in rising number: its turns, and what every turn keeps.
+use mathlib.Core.Path.{_≡_, refl}
+use Prim.Native.Nat.{ℕ, zero, suc, _+_, _<_}
+use native.Mathlib.Numerals.{add-one}
+use native.Mathlib.Omega.{arith}
+use Rattle.loops.specs.Turns.{upTo}
+
+module _ {ℓ} {A : Type ℓ} (step : ℕ → A → A) where
+  pub upTo-zero : (a : A) → upTo step 0 a ≡ a
+  unfolding upTo
+  upTo-zero a = refl
+
+  pub upTo-suc : (j : ℕ) (a : A) → upTo step (suc j) a ≡ step j (upTo step j a)
+  unfolding upTo
+  upTo-suc j a = refl
+
+  -- one turn more, as a loop that counts has it
+  pub upTo-more : (j : ℕ) (a : A) → upTo step (j + 1) a ≡ step j (upTo step j a)
+  unfolding upTo
+  upTo-more j a = rw add-one
+
+  -- what every turn below n keeps holds at the end
+  pub upTo-kept {κ} : (P : A → Type κ) (n : ℕ) → ((j : ℕ) → j < n → (a : A) → P a → P (step j a)) → (a : A) → P a → P (upTo step n a)
+  unfolding upTo
+  upTo-kept P zero turn a h = h
+  upTo-kept P (suc j) turn a h = turn j (omega arith) (upTo step j a) (upTo-kept P j (λ i l. turn i (omega arith)) a h)
+
+  -- what each turn carries from its number to the next holds at the end: an invariant that names the turn
+  pub upTo-carried {κ} : (P : ℕ → A → Type κ) (n : ℕ) → ((j : ℕ) → j < n → (a : A) → P j a → P (suc j) (step j a)) → (a : A) → P 0 a → P n (upTo step n a)
+  unfolding upTo
+  upTo-carried P zero turn a h = h
+  upTo-carried P (suc j) turn a h = turn j (omega arith) (upTo step j a) (upTo-carried P j (λ i l. turn i (omega arith)) a h)

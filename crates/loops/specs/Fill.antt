@@ -1,0 +1,8 @@
+-- A list written from its numbers.
+use Prim.Native.Nat.{ℕ, zero, suc}
+use mathlib.Core.List.{List, [], _∷_}
+
+-- f i, f (i + 1), .. : n elements
+unfoldable pub from {ℓ} : {A : Type ℓ} → (ℕ → A) → ℕ → ℕ → List A
+from f i zero = []
+from f i (suc n) = f i ∷ from f (suc i) n

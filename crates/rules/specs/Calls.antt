@@ -1,0 +1,127 @@
+-- Document 01, "Numbers a caller gets back": each call with its refusals in their order; the first that applies is given.
+-- A call is one total function from any list of words and any arguments to an answer and the words it leaves.
+use Prim.Native.Nat.{ℕ}
+use mathlib.Core.Bool.{Bool, not, _||_, cond}
+use mathlib.Core.List.{List}
+use lib.IntN.{ℤ, pos}
+use lib.ListN.{length}
+use lib.Dec.{eqb, leb, ltb}
+use Rattle.loops.specs.Total.{bit}
+use Rattle.rules.specs.declared.setting.Setting.{Setting}
+use Rattle.rules.specs.declared.answer.Found.{Found}
+use Rattle.rules.specs.declared.answer.Found.the-variants.{At, Absent}
+use Rattle.rules.specs.declared.answer.Answer.{Answer}
+use Rattle.rules.specs.declared.answer.Answer.the-variants.{Taken, Refused}
+use Rattle.rules.specs.declared.answer.Refusal.the-variants.{
+  WrongLength,
+  NotSound,
+  BadSetting,
+  NameTaken,
+  BadSlot,
+  BadParents,
+  UnknownParent,
+  ParentTwice,
+  Full,
+  UnknownName,
+  NotWaiting,
+  WrongVotes,
+  BadVote,
+}
+use Rattle.rules.specs.Layout.{size, slots, mostParents, mostBookings, bookings, settingIn, stateOf, confidenceOf}
+use Rattle.rules.specs.Setting.{isGood}
+use Rattle.rules.specs.Answers.{Outcome, outcome, leaves, done}
+use Rattle.rules.specs.Votes.{hasRefusedVote}
+use Rattle.rules.specs.IsSound.{isSound}
+use Rattle.rules.specs.Open.{opened}
+use Rattle.rules.specs.Book.{lookUp, isFound, numberOf, hasUnknown, hasTwice, booked}
+use Rattle.rules.specs.Poll.{polled}
+use Rattle.rules.specs.Readings.{queryOf, acceptedOf, leadOf, sizeOf}
+
+-- ---- open: 1, 3
+
+abbrev pub openAnswer : List ℕ → Setting → Answer
+openAnswer w s =
+    cond (not (eqb (length w) size)) (Refused WrongLength)
+    (cond (not (isGood s)) (Refused BadSetting)
+    done)
+
+unfoldable pub openCall : List ℕ → Setting → Outcome
+openCall w s = leaves (openAnswer w s) w (opened s)
+
+-- ---- what the other calls begin with
+
+-- refusal 10 before the rest, which takes the number found
+abbrev pub askedOf : Found → (ℕ → Answer) → Answer
+askedOf (At i) rest = rest i
+askedOf Absent rest = Refused UnknownName
+
+-- The other calls first test the workspace. The section's test is always `isSound`, given at the end of this file; that it
+-- can be another with the same results lets the table of cases be computed by a faster one (proofs/Cases.antt).
+module _ (sound : List ℕ → Bool) where
+  -- refusals 1 and 2 before the rest
+  abbrev pub tested : List ℕ → Answer → Answer
+  tested w rest =
+      cond (not (eqb (length w) size)) (Refused WrongLength)
+      (cond (not (sound w)) (Refused NotSound)
+      rest)
+
+  -- ---- book: 1, 2, 4, 5, 6, 7, 8, 9
+
+  abbrev pub bookAnswer : List ℕ → ℕ → ℕ → List ℕ → Answer
+  bookAnswer w name slot parents =
+      tested w
+      (cond (isFound (lookUp w name)) (Refused NameTaken)
+      (cond (eqb slot 0 || leb slots slot) (Refused BadSlot)
+      (cond (eqb (length parents) 0 || ltb mostParents (length parents)) (Refused BadParents)
+      (cond (hasUnknown w parents) (Refused UnknownParent)
+      (cond (hasTwice parents) (Refused ParentTwice)
+      (cond (eqb (bookings w) mostBookings) (Refused Full)
+      done))))))
+
+  abbrev pub bookBy : List ℕ → ℕ → ℕ → List ℕ → Outcome
+  bookBy w name slot parents = leaves (bookAnswer w name slot parents) w (booked w name slot parents)
+
+  -- ---- poll: 1, 2, 10, 11, 12, 13
+
+  abbrev pub pollAnswer : List ℕ → ℕ → List ℕ → Answer
+  pollAnswer w name votes =
+      tested w
+      (askedOf (lookUp w name) (λ i.
+      cond (not (eqb (stateOf w i) 0)) (Refused NotWaiting)
+      (cond (not (eqb (length votes) (settingIn w .k))) (Refused WrongVotes)
+      (cond (hasRefusedVote votes) (Refused BadVote)
+      done))))
+
+  abbrev pub pollBy : List ℕ → ℕ → List ℕ → Outcome
+  pollBy w name votes = leaves (pollAnswer w name votes) w (polled w (numberOf (lookUp w name)) votes)
+
+  -- ---- readings: 1, 2, 10
+
+  abbrev pub readingBy : (ℕ → ℤ) → List ℕ → ℕ → Answer
+  readingBy reading w name = tested w (askedOf (lookUp w name) (λ i. Taken (reading i)))
+
+-- ---- the calls
+
+unfoldable pub bookCall : List ℕ → ℕ → ℕ → List ℕ → Outcome
+bookCall = bookBy isSound
+
+unfoldable pub pollCall : List ℕ → ℕ → List ℕ → Outcome
+pollCall = pollBy isSound
+
+abbrev pub readingCall : (ℕ → ℤ) → List ℕ → ℕ → Answer
+readingCall = readingBy isSound
+
+unfoldable pub queryCall : List ℕ → ℕ → Answer
+queryCall w = readingCall (λ i. pos (bit (queryOf w i))) w
+
+unfoldable pub acceptedCall : List ℕ → ℕ → Answer
+acceptedCall w = readingCall (λ i. pos (bit (acceptedOf w i))) w
+
+unfoldable pub leadCall : List ℕ → ℕ → Answer
+leadCall w = readingCall (leadOf w) w
+
+unfoldable pub confidenceCall : List ℕ → ℕ → Answer
+confidenceCall w = readingCall (λ i. pos (confidenceOf w i)) w
+
+unfoldable pub sizeCall : List ℕ → ℕ → Answer
+sizeCall w = readingCall (λ i. pos (sizeOf w i)) w

@@ -1,0 +1,125 @@
+-- Document 01, "A workspace is sound exactly if": the test, row by row, so that the lowest row that breaks a rule has a name.
+-- Sound.antt says the same sentence by sentence.
+use Prim.Native.Nat.{ℕ, _+_}
+use mathlib.Core.Bool.{Bool, _&&_, _||_, not, cond}
+use mathlib.Core.List.{List}
+use lib.Dec.{ltb, leb, eqb}
+use Rattle.loops.specs.Search.{all, any}
+use Rattle.loops.specs.Total.{count}
+use Rattle.rules.specs.Setting.{isGood}
+use Rattle.rules.specs.Layout.{
+  mostBookings,
+  slots,
+  recordWords,
+  none,
+  header,
+  field,
+  bookings,
+  settingIn,
+  polls,
+  spareField,
+  nameOf,
+  slotOf,
+  parentOf,
+  stateOf,
+  confidenceOf,
+  ordinalOf,
+  preferredIn,
+  lastIn,
+  counterIn,
+  heldIn,
+}
+
+-- how many records below n are in state 2
+unfoldable pub chits : List ℕ → ℕ
+chits w = count (λ i. eqb (stateOf w i) 2) (bookings w)
+
+-- how many records below n have slot s
+unfoldable pub bookingsOf : List ℕ → ℕ → ℕ
+bookingsOf w s = count (λ i. eqb (slotOf w i) s) (bookings w)
+
+-- ---- the header
+
+-- n is 1 to 512, the setting is good, p ≤ n − 1, the last two header words are 0
+unfoldable pub headerGood : List ℕ → Bool
+headerGood w =
+    leb 1 (bookings w) && leb (bookings w) mostBookings && isGood (settingIn w) && ltb (polls w) (bookings w)
+    && eqb (header w spareField) 0 && eqb (header w (spareField + 1)) 0
+
+-- ---- records
+
+-- name 0, slot 0, no parents, state 1, ordinal 0
+unfoldable pub genesisGood : List ℕ → Bool
+genesisGood w =
+    eqb (nameOf w 0) 0 && eqb (slotOf w 0) 0 && eqb (parentOf w 0 0) none && eqb (parentOf w 0 1) none && eqb (parentOf w 0 2) none
+    && eqb (parentOf w 0 3) none && eqb (stateOf w 0) 1 && eqb (ordinalOf w 0) 0
+
+-- a name that no lower record has: of two with one name the higher breaks the rule
+abbrev pub nameNew : List ℕ → ℕ → Bool
+nameNew w i = not (any (λ j. eqb (nameOf w j) (nameOf w i)) i)
+
+-- a place that is used holds a number below i that no earlier place holds
+abbrev pub parentGood : List ℕ → ℕ → ℕ → Bool
+parentGood w i a = eqb (parentOf w i a) none || (ltb (parentOf w i a) i && not (any (λ b. eqb (parentOf w i b) (parentOf w i a)) a))
+
+-- at least one parent, unused places after used ones, parents distinct and below its own number
+unfoldable pub parentsGood : List ℕ → ℕ → Bool
+parentsGood w i =
+    not (eqb (parentOf w i 0) none)
+    && (not (eqb (parentOf w i 1) none) || eqb (parentOf w i 2) none)
+    && (not (eqb (parentOf w i 2) none) || eqb (parentOf w i 3) none)
+    && parentGood w i 0 && parentGood w i 1 && parentGood w i 2 && parentGood w i 3
+
+-- an ordinal above 0 that no lower record has
+abbrev pub ordinalNew : List ℕ → ℕ → Bool
+ordinalNew w i = eqb (ordinalOf w i) 0 || not (any (λ j. eqb (ordinalOf w j) (ordinalOf w i)) i)
+
+-- state 0, 1 or 2, ordinal 0 exactly if the state is 0, and no more than p
+unfoldable pub stateGood : List ℕ → ℕ → Bool
+stateGood w i =
+    leb (stateOf w i) 2 && cond (eqb (stateOf w i) 0) (eqb (ordinalOf w i) 0) (not (eqb (ordinalOf w i) 0)) && leb (ordinalOf w i) (polls w)
+
+-- a record below n other than the genesis
+unfoldable pub bookingGood : List ℕ → ℕ → Bool
+bookingGood w i = nameNew w i && leb 1 (slotOf w i) && ltb (slotOf w i) slots && parentsGood w i && stateGood w i && ordinalNew w i
+
+-- a record below n
+abbrev pub recordGood : List ℕ → ℕ → Bool
+recordGood w i = cond (eqb i 0) (genesisGood w) (bookingGood w i) && leb (confidenceOf w i) (chits w)
+
+-- each ordinal from 1 to p is held
+abbrev pub ordinalsHeld : List ℕ → Bool
+ordinalsHeld w = all (λ o. any (λ i. eqb (ordinalOf w i) (o + 1)) (bookings w)) (polls w)
+
+-- a record from n on is all zero
+abbrev pub recordZero : List ℕ → ℕ → Bool
+recordZero w i = all (λ f. eqb (field w i f) 0) recordWords
+
+unfoldable pub recordsGood : List ℕ → Bool
+recordsGood w =
+    all (recordGood w) (bookings w) && ordinalsHeld w && all (λ i. ltb i (bookings w) || recordZero w i) mostBookings
+
+-- ---- slot entries
+
+-- i is a booking of slot s
+abbrev pub isBookingOf : List ℕ → ℕ → ℕ → Bool
+isBookingOf w s i = ltb i (bookings w) && eqb (slotOf w i) s
+
+abbrev pub entryEmpty : List ℕ → ℕ → Bool
+entryEmpty w s = eqb (preferredIn w s) none && eqb (lastIn w s) none && eqb (counterIn w s) 0 && eqb (heldIn w s) 0
+
+abbrev pub entryHeld : List ℕ → ℕ → Bool
+entryHeld w s =
+    eqb (heldIn w s) (bookingsOf w s) && isBookingOf w s (preferredIn w s) && isBookingOf w s (lastIn w s) && leb (counterIn w s) (chits w)
+
+-- whether a slot has bookings is judged by the records
+unfoldable pub slotGood : List ℕ → ℕ → Bool
+slotGood w s = cond (eqb (bookingsOf w s) 0) (entryEmpty w s) (entryHeld w s)
+
+unfoldable pub slotsGood : List ℕ → Bool
+slotsGood w = all (slotGood w) slots
+
+-- ---- the whole
+
+unfoldable pub isSound : List ℕ → Bool
+isSound w = headerGood w && recordsGood w && slotsGood w

@@ -1,0 +1,73 @@
+-- Document 01, "Poll": what a completed poll does to the words.
+use Prim.Native.Nat.{ℕ, _+_}
+use mathlib.Core.Bool.{Bool, cond}
+use mathlib.Core.List.{List}
+use lib.Dec.{eqb, ltb, leb}
+use Rattle.loops.specs.Turns.{upTo}
+use Rattle.rules.specs.Votes.{yesVotes}
+use Rattle.rules.specs.Ancestry.{ancestry, isMember}
+use Rattle.rules.specs.Layout.{
+  bookings,
+  settingIn,
+  polls,
+  pollsField,
+  stateField,
+  ordinalField,
+  confidenceField,
+  preferredField,
+  lastField,
+  counterField,
+  slotOf,
+  confidenceOf,
+  preferredIn,
+  lastIn,
+  counterIn,
+  withHeader,
+  withField,
+  withEntry,
+}
+
+-- the poll succeeds exactly if the yes votes number a or more
+abbrev pub isSuccess : List ℕ → List ℕ → Bool
+isSuccess w votes = leb (settingIn w .a) (yesVotes votes)
+
+-- p rises and becomes the ordinal of booking i, whose state is as given
+abbrev pub noted : List ℕ → ℕ → ℕ → List ℕ
+noted w i state = withField (withField (withHeader w pollsField (polls w + 1)) i stateField state) i ordinalField (polls w + 1)
+
+-- one confidence more for j if it is a member
+unfoldable pub raiseOne : List ℕ → ℕ → List ℕ → List ℕ
+raiseOne m j w = cond (isMember m j) (withField w j confidenceField (confidenceOf w j + 1)) w
+
+-- every member gains one confidence
+abbrev pub raised : List ℕ → ℕ → List ℕ → List ℕ
+raised m n w = upTo (raiseOne m) n w
+
+-- 1. if j's confidence is strictly above that of the preferred booking of slot s, it becomes preferred
+unfoldable pub prefer : ℕ → ℕ → List ℕ → List ℕ
+prefer s j w = cond (ltb (confidenceOf w (preferredIn w s)) (confidenceOf w j)) (withEntry w s preferredField j) w
+
+-- 2. if j is not the last of slot s, it becomes last and the counter becomes 0; otherwise the counter rises by one
+unfoldable pub follow : ℕ → ℕ → List ℕ → List ℕ
+follow s j w =
+    cond (eqb (lastIn w s) j) (withEntry w s counterField (counterIn w s + 1)) (withEntry (withEntry w s lastField j) s counterField 0)
+
+-- both for j, in this order, if it is a member
+unfoldable pub settleOne : List ℕ → ℕ → List ℕ → List ℕ
+settleOne m j w = cond (isMember m j) (follow (slotOf w j) j (prefer (slotOf w j) j w)) w
+
+-- both for each member in rising number
+abbrev pub settled : List ℕ → ℕ → List ℕ → List ℕ
+settled m n w = upTo (settleOne m) n w
+
+-- on failure the state becomes 1 and nothing else changes
+abbrev pub failed : List ℕ → ℕ → List ℕ
+failed w i = noted w i 1
+
+-- on success the state becomes 2, every member gains one confidence, and then each is settled
+abbrev pub succeeded : List ℕ → ℕ → List ℕ
+succeeded w i = settled (ancestry w i) (bookings w) (raised (ancestry w i) (bookings w) (noted w i 2))
+
+-- booking i after a taken poll
+unfoldable pub polled : List ℕ → ℕ → List ℕ → List ℕ
+polled w i votes = cond (isSuccess w votes) (succeeded w i) (failed w i)

@@ -1,0 +1,78 @@
+-- Document 01, "Readings": what each says of booking i. They change nothing.
+use Prim.Native.Nat.{ℕ, suc}
+use mathlib.Core.Bool.{Bool, true, _&&_, _||_, not, cond}
+use mathlib.Core.List.{List}
+use lib.IntN.{ℤ, pos, _-ℤ_}
+use lib.Dec.{eqb, ltb}
+use Rattle.loops.specs.Turns.{upTo}
+use Rattle.loops.specs.Search.{all}
+use Rattle.loops.specs.Total.{bit, count, greatest}
+use Rattle.rules.specs.Ancestry.{ancestry, isMember, mark, unmarked}
+use Rattle.rules.specs.Layout.{
+  mostParents,
+  none,
+  bookings,
+  settingIn,
+  slotOf,
+  parentOf,
+  confidenceOf,
+  preferredIn,
+  lastIn,
+  counterIn,
+  heldIn,
+}
+
+abbrev pub isPreferred : List ℕ → ℕ → Bool
+isPreferred w j = eqb (preferredIn w (slotOf w j)) j
+
+abbrev pub isLast : List ℕ → ℕ → Bool
+isLast w j = eqb (lastIn w (slotOf w j)) j
+
+-- ---- query: every member of the ancestry is preferred in its slot
+
+unfoldable pub queryOf : List ℕ → ℕ → Bool
+queryOf w i = all (λ j. not (isMember (ancestry w i) j) || isPreferred w j) (bookings w)
+
+-- ---- accepted
+
+-- all parents are accepted; m has a mark for each accepted booking below j
+abbrev pub parentsAccepted : List ℕ → List ℕ → ℕ → Bool
+parentsAccepted w m j = all (λ a. eqb (parentOf w j a) none || isMember m (parentOf w j a)) mostParents
+
+-- all parents are accepted, the slot has one booking and its counter is above β1
+abbrev pub firstArm : List ℕ → List ℕ → ℕ → Bool
+firstArm w m j = parentsAccepted w m j && eqb (heldIn w (slotOf w j)) 1 && ltb (settingIn w .beta1) (counterIn w (slotOf w j))
+
+-- the booking is both preferred and last in its slot and the counter is above β2
+abbrev pub secondArm : List ℕ → ℕ → Bool
+secondArm w j = isPreferred w j && isLast w j && ltb (settingIn w .beta2) (counterIn w (slotOf w j))
+
+-- 1 for the genesis; for others 1 exactly by one of the arms
+unfoldable pub acceptOne : List ℕ → ℕ → List ℕ → List ℕ
+acceptOne w j m = cond (eqb j 0 || firstArm w m j || secondArm w j) (mark j m) m
+
+-- the accepted bookings below n, marked in rising number: parents are lower
+abbrev pub acceptedBelow : List ℕ → ℕ → List ℕ
+acceptedBelow w n = upTo (acceptOne w) n unmarked
+
+unfoldable pub acceptedOf : List ℕ → ℕ → Bool
+acceptedOf w i = isMember (acceptedBelow w (suc i)) i
+
+-- ---- lead: confidence minus the greatest confidence among the slot's other bookings, or minus 0
+
+abbrev pub isRival : List ℕ → ℕ → ℕ → Bool
+isRival w i j = eqb (slotOf w j) (slotOf w i) && not (eqb j i)
+
+abbrev pub rivalConfidence : List ℕ → ℕ → ℕ → ℕ
+rivalConfidence w i j = cond (isRival w i j) (confidenceOf w j) 0
+
+unfoldable pub rivalsMost : List ℕ → ℕ → ℕ
+rivalsMost w i = greatest (rivalConfidence w i) (bookings w)
+
+unfoldable pub leadOf : List ℕ → ℕ → ℤ
+leadOf w i = pos (confidenceOf w i) -ℤ pos (rivalsMost w i)
+
+-- ---- size: how many members the ancestry has
+
+unfoldable pub sizeOf : List ℕ → ℕ → ℕ
+sizeOf w i = count (isMember (ancestry w i)) (bookings w)

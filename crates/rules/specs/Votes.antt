@@ -1,0 +1,39 @@
+-- Document 01, "Poll": what a vote byte says, how many say yes; and what a state word says.
+use Prim.Native.Nat.{ℕ}
+use mathlib.Core.Bool.{Bool, true, false, cond}
+use mathlib.Core.List.{List}
+use lib.ListN.{length, getD}
+use lib.Dec.{eqb}
+use Rattle.loops.specs.Search.{any}
+use Rattle.loops.specs.Total.{count}
+use Rattle.rules.specs.declared.vote.Vote.{Vote}
+use Rattle.rules.specs.declared.vote.Vote.the-variants.{Yes, No, Silent, Refused}
+use Rattle.rules.specs.declared.vote.State.{State}
+use Rattle.rules.specs.declared.vote.State.the-variants.{Waiting, Failed, Chit, Unknown}
+
+-- 1 is yes, 255 is no (the signed byte −1) and 0 is silent; 2 to 254 are refused
+unfoldable pub voteOf : ℕ → Vote
+voteOf byte = cond (eqb byte 1) Yes (cond (eqb byte 255) No (cond (eqb byte 0) Silent Refused))
+
+abbrev pub isYes : Vote → Bool
+isYes Yes = true
+isYes No = false
+isYes Silent = false
+isYes Refused = false
+
+abbrev pub isRefused : Vote → Bool
+isRefused Yes = false
+isRefused No = false
+isRefused Silent = false
+isRefused Refused = true
+
+-- a silent station counts neither way, and a no takes no yes away
+abbrev pub yesVotes : List ℕ → ℕ
+yesVotes votes = count (λ j. isYes (voteOf (getD votes j 0))) (length votes)
+
+abbrev pub hasRefusedVote : List ℕ → Bool
+hasRefusedVote votes = any (λ j. isRefused (voteOf (getD votes j 0))) (length votes)
+
+-- 0 waiting, 1 polled without a chit, 2 chit
+unfoldable pub stateSays : ℕ → State
+stateSays word = cond (eqb word 0) Waiting (cond (eqb word 1) Failed (cond (eqb word 2) Chit Unknown))
