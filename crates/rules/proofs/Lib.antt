@@ -1,0 +1,11 @@
+-- Laws of the definitions in specs/. They assume nothing.
+pub mod Words
+pub mod Good
+pub mod Lookup
+pub mod Sound
+pub mod Opened
+pub mod Ancestry
+pub mod Accepted
+pub mod Readings
+pub mod Calls
+pub mod Cases

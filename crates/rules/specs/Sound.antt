@@ -4,9 +4,11 @@ use Prim.Native.Nat.{ℕ, _+_, _≤_, _<_}
 use mathlib.Core.Path.{_≡_}
 use mathlib.Core.List.{List}
 use mathlib.Core.Logic.{_≢_, _↔_}
+use lib.ListN.{length}
 use Rattle.rules.specs.Setting.{Good}
 use Rattle.rules.specs.IsSound.{chits, bookingsOf}
 use Rattle.rules.specs.Layout.{
+  size,
   mostBookings,
   slots,
   recordWords,
@@ -87,3 +89,8 @@ pub record Sound (w : List ℕ) : Type 0 where
   -- no confidence and no counter exceeds the number of records below n in state 2
   pub confidenceMost : (i : ℕ) → i < bookings w → confidenceOf w i ≤ chits w
   pub counterMost : (s : ℕ) → s < slots → counterIn w s ≤ chits w
+
+-- a workspace of the right length that is sound: what every call but open works on once its refusals 1 and 2 are past
+pub record Ledger (w : List ℕ) : Type 0 where
+  pub whole : length w ≡ size
+  pub sound : Sound w

@@ -1,0 +1,1 @@
+-- `acceptedOf` satisfies document 01's sentence at every booking of a sound workspace.

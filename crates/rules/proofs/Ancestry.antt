@@ -1,0 +1,1 @@
+-- On a sound workspace the marks of `ancestry` are exactly the bookings that `Reaches` names.

@@ -1,0 +1,1 @@
+-- Refused calls leave every word and have value 0.

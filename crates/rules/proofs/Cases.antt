@@ -1,0 +1,1 @@
+-- Document 01, "Cases on each side": P1 to P12, one table under one statement, computed from the definitions.

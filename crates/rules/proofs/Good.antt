@@ -1,0 +1,1 @@
+-- The test of a setting and the statement that it is good agree.

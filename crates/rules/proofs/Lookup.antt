@@ -1,0 +1,1 @@
+-- Laws of the lookup of a name: what is found, and that on a sound workspace it is the one booking with the name.

@@ -1,0 +1,1 @@
+-- A newly opened ledger: its words, and that it is sound.

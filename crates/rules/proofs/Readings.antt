@@ -1,0 +1,1 @@
+-- Bounds of the readings on a sound workspace.

@@ -1,0 +1,1 @@
+-- The test `isSound` and the statement `Sound` agree, both directions.

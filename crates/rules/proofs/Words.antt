@@ -1,0 +1,1 @@
+-- Laws of the layout: reading after writing, to the same word and to another; lengths after writes.

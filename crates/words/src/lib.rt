@@ -1,0 +1,90 @@
+// Leaf readers and writers of the lent words. All index arithmetic lives here: everything above says header, record or slot entry.
+use rules::layout;
+ghost use mathlib.Core.Path.{_≡_};
+ghost use Prim.Native.Nat.{_<_, _*_};
+ghost use lib.ListN.{length};
+ghost use Rattle.rules.specs.Layout.{
+  size,
+  mostBookings,
+  recordWords,
+  slots,
+  slotWords,
+  headerWords,
+  header,
+  field,
+  entry,
+  withHeader,
+  withField,
+  withEntry,
+  nameOf,
+};
+
+// A word as a wider number.
+pub fn wide(x: u16) -> usize
+    ensures { λ r. ⌜ (r ≡ x) × (r < 65536) ⌝ }
+{
+    x as usize
+}
+
+fn wide64(x: u16) -> u64
+    ensures { λ r. ⌜ (r ≡ x) × (r < 65536) ⌝ }
+{
+    x as u64
+}
+
+// Word f of the header.
+pub fn head(w: &[u16], f: usize) -> u16
+    requires { ⌜ (length (now w) ≡ size) × (f < headerWords) ⌝ }
+    ensures { λ r. ⌜ r ≡ header (now (w .entry)) f ⌝ }
+{
+    w[f]
+}
+
+pub fn set_head(w: &mut [u16], f: usize, v: u16)
+    requires { ⌜ (length (now w) ≡ size) × (f < headerWords) ⌝ }
+    ensures { λ _. ⌜ now (w .exit) ≡ withHeader (now (w .entry)) f v ⌝ }
+{
+    w[f] = v;
+}
+
+// Word f of record i.
+pub fn get(w: &[u16], i: usize, f: usize) -> u16
+    requires { ⌜ (length (now w) ≡ size) × (i < mostBookings) × (f < recordWords) ⌝ }
+    ensures { λ r. ⌜ r ≡ field (now (w .entry)) i f ⌝ }
+{
+    w[layout::HEADER_WORDS + layout::RECORD_WORDS * i + f]
+}
+
+pub fn set_field(w: &mut [u16], i: usize, f: usize, v: u16)
+    requires { ⌜ (length (now w) ≡ size) × (i < mostBookings) × (f < recordWords) ⌝ }
+    ensures { λ _. ⌜ now (w .exit) ≡ withField (now (w .entry)) i f v ⌝ }
+{
+    w[layout::HEADER_WORDS + layout::RECORD_WORDS * i + f] = v;
+}
+
+// Word f of slot entry s.
+pub fn get_entry(w: &[u16], s: usize, f: usize) -> u16
+    requires { ⌜ (length (now w) ≡ size) × (s < slots) × (f < slotWords) ⌝ }
+    ensures { λ r. ⌜ r ≡ entry (now (w .entry)) s f ⌝ }
+{
+    w[layout::SLOTS_START + layout::SLOT_WORDS * s + f]
+}
+
+pub fn set_entry(w: &mut [u16], s: usize, f: usize, v: u16)
+    requires { ⌜ (length (now w) ≡ size) × (s < slots) × (f < slotWords) ⌝ }
+    ensures { λ _. ⌜ now (w .exit) ≡ withEntry (now (w .entry)) s f v ⌝ }
+{
+    w[layout::SLOTS_START + layout::SLOT_WORDS * s + f] = v;
+}
+
+// The name of record i: four words, highest part first.
+pub fn name(w: &[u16], i: usize) -> u64
+    requires { ⌜ (length (now w) ≡ size) × (i < mostBookings) ⌝ }
+    ensures { λ r. ⌜ r ≡ nameOf (now (w .entry)) i ⌝ }
+{
+    let a = wide64(get(w, i, 0));
+    let b = wide64(get(w, i, 1));
+    let c = wide64(get(w, i, 2));
+    let d = wide64(get(w, i, 3));
+    ((a * 65536 + b) * 65536 + c) * 65536 + d
+}
