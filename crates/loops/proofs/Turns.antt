@@ -1,7 +1,9 @@
 -- Laws of a rule that is applied in rising number: its turns, and what every turn keeps.
-use mathlib.Core.Path.{_≡_, refl}
+use mathlib.Core.Path.{_≡_, refl, ap, subst, _∙_}
+use mathlib.Core.Logic.{⊎-elim}
 use Prim.Native.Nat.{ℕ, zero, suc, _+_, _<_}
 use native.Mathlib.Numerals.{add-one}
+use native.Mathlib.Nat.{eq-or-lt-of-le, le-of-suc-le-suc}
 use native.Mathlib.Omega.{arith}
 use Rattle.loops.specs.Turns.{upTo}
 
@@ -30,3 +32,19 @@ module _ {ℓ} {A : Type ℓ} (step : ℕ → A → A) where
   unfolding upTo
   upTo-carried P zero turn a h = h
   upTo-carried P (suc j) turn a h = turn j (omega arith) (upTo step j a) (upTo-carried P j (λ i l. turn i (omega arith)) a h)
+
+  -- what turn k makes and every turn keeps holds at the end
+  pub upTo-since {κ} : (P : A → Type κ) (n k : ℕ) → k < n → (a : A) → P (step k (upTo step k a)) → ((j : ℕ) → j < n → (b : A) → P b → P (step j b)) → P (upTo step n a)
+  unfolding upTo
+  upTo-since P zero k l a made keep = absurd (omega arith)
+  upTo-since P (suc n) k l a made keep =
+      ⊎-elim
+      (λ (q : k ≡ n). subst (λ x. P (step x (upTo step x a))) q made)
+      (λ (q : k < n). keep n (omega arith) (upTo step n a) (upTo-since P n k q a made (λ j u. keep j (omega arith))))
+      (eq-or-lt-of-le (le-of-suc-le-suc l))
+
+  -- rules that agree at every turn below n end alike
+  pub upTo-same : (other : ℕ → A → A) (n : ℕ) → ((j : ℕ) → j < n → (a : A) → step j a ≡ other j a) → (a : A) → upTo step n a ≡ upTo other n a
+  unfolding upTo
+  upTo-same other zero h a = refl
+  upTo-same other (suc n) h a = h n (omega arith) (upTo step n a) ∙ ap (other n) (upTo-same other n (λ j l. h j (omega arith)) a)
