@@ -33,14 +33,14 @@ module _ {ℓ} {A : Type ℓ} (step : ℕ → A → A) where
   upTo-carried P zero turn a h = h
   upTo-carried P (suc j) turn a h = turn j (omega arith) (upTo step j a) (upTo-carried P j (λ i l. turn i (omega arith)) a h)
 
-  -- what turn k makes and every turn keeps holds at the end
-  pub upTo-since {κ} : (P : A → Type κ) (n k : ℕ) → k < n → (a : A) → P (step k (upTo step k a)) → ((j : ℕ) → j < n → (b : A) → P b → P (step j b)) → P (upTo step n a)
+  -- what turn k makes and every later turn keeps holds at the end
+  pub upTo-since {κ} : (P : A → Type κ) (n k : ℕ) → k < n → (a : A) → P (step k (upTo step k a)) → ((j : ℕ) → k < j → j < n → (b : A) → P b → P (step j b)) → P (upTo step n a)
   unfolding upTo
   upTo-since P zero k l a made keep = absurd (omega arith)
   upTo-since P (suc n) k l a made keep =
       ⊎-elim
       (λ (q : k ≡ n). subst (λ x. P (step x (upTo step x a))) q made)
-      (λ (q : k < n). keep n (omega arith) (upTo step n a) (upTo-since P n k q a made (λ j u. keep j (omega arith))))
+      (λ (q : k < n). keep n q (omega arith) (upTo step n a) (upTo-since P n k q a made (λ j u v. keep j u (omega arith))))
       (eq-or-lt-of-le (le-of-suc-le-suc l))
 
   -- rules that agree at every turn below n end alike

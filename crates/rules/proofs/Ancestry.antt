@@ -4,7 +4,7 @@
 use mathlib.Core.Path.{_≡_, refl, sym, ap, subst, _∙_}
 use mathlib.Core.Bool.{Bool, true, false, cond}
 use mathlib.Core.List.{List}
-use mathlib.Core.Logic.{_≢_, _⊎_, inl, inr, ⊎-elim, _↔_}
+use mathlib.Core.Logic.{_⊎_, inl, inr, ⊎-elim, _↔_}
 use Prim.Native.Nat.{ℕ, zero, suc, _+_, _-_, _<_, _≤_}
 use native.Mathlib.Nat.{eq-or-lt-of-le}
 use native.Mathlib.Numerals.{add-one}
@@ -15,7 +15,7 @@ use lib.Seq.{getD-set-same, getD-set-other, set-out}
 use borrow.Author.Tests.{eq-eqb, eqb-true}
 use Rattle.loops.specs.Turns.{upTo}
 use Rattle.loops.proofs.Turns.{upTo-kept, upTo-since, upTo-same}
-use Rattle.rules.specs.Layout.{mostBookings, mostParents, none, bookings, parentOf}
+use Rattle.rules.specs.Layout.{mostBookings, mostParents, bookings, parentOf}
 use Rattle.rules.specs.Ancestry.{Parent, Reaches, self, up, isMember, mark, markParents, spread, sweep, unmarked, ancestry}
 use Rattle.rules.specs.Sound.{Sound}
 
@@ -88,7 +88,7 @@ module _ (w : List ℕ) (j : ℕ) where
   parents-new m p a h =
       upTo-since markParent (λ v. Marked v p) mostParents (a .place) (a .within) m
       (rw (a .stands) (mark-new (upTo markParent (a .place) m) p (omega (arith, length-markParents (a .place) m))))
-      (λ b l v t. grown-kept (mark-grown v (parentOf w j b) p) t)
+      (λ b l u v t. grown-kept (mark-grown v (parentOf w j b) p) t)
 
 -- ---- one turn of the sweep
 
