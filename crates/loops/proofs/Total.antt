@@ -1,7 +1,7 @@
 -- Laws of sums, counts and the greatest: one turn more, bounds, and sums of equal or growing parts.
 use mathlib.Core.Path.{_≡_, refl, sym, ap, ap₂, _∙_}
 use mathlib.Core.Bool.{Bool, true, false}
-use mathlib.Core.Logic.{_≢_, ⊎-elim}
+use mathlib.Core.Logic.{_≢_, _⊎_, inl, inr, ⊎-elim}
 use Prim.Native.Nat.{ℕ, zero, suc, _+_, max, _<_, _≤_}
 use native.Mathlib.Numerals.{add-one}
 use native.Mathlib.Nat.{add-zero, eq-or-lt-of-le, le-of-suc-le-suc}
@@ -146,3 +146,15 @@ greatest-above f (suc n) i l =
     (λ (q : i ≡ n). let e : f i ≡ f n = ap f q in omega arith)
     (λ (q : i < n). omega (arith, greatest-above f n i q))
     (eq-or-lt-of-le (le-of-suc-le-suc l))
+
+-- the greatest is 0 or one of the parts
+pub greatest-held : (f : ℕ → ℕ) (n : ℕ) → (greatest f n ≡ 0) ⊎ ((i : ℕ) × (i < n) × (f i ≡ greatest f n))
+unfolding greatest
+greatest-held f zero = inl refl
+greatest-held f (suc n) = go (decLt (greatest f n) (f n)) (greatest-held f n)
+  where
+    go : Dec (greatest f n < f n) → (greatest f n ≡ 0) ⊎ ((i : ℕ) × (i < n) × (f i ≡ greatest f n))
+        → (max (greatest f n) (f n) ≡ 0) ⊎ ((i : ℕ) × (i < suc n) × (f i ≡ max (greatest f n) (f n)))
+    go (yes h) u = inr (n, omega arith, omega arith)
+    go (no h) (inl e) = inl (omega arith)
+    go (no h) (inr u) = inr (u .0, omega (arith, u .1), omega (arith, u .2))

@@ -50,7 +50,7 @@ abbrev accepts : List ℕ → ℕ → List ℕ → Bool
 accepts w j m = eqb j 0 || firstArm w m j || secondArm w j
 
 module _ (w : List ℕ) (j : ℕ) (m : List ℕ) where
-  length-acceptOne : length (acceptOne w j m) ≡ length m
+  pub length-acceptOne : length (acceptOne w j m) ≡ length m
   unfolding acceptOne
   length-acceptOne = elim (accepts w j m) as (λ b. length (cond b (mark j m) m) ≡ length m) [ true ↦ length-set m j 1 | false ↦ refl ]
 
