@@ -8,4 +8,5 @@ pub mod Ancestry
 pub mod Accepted
 pub mod Readings
 pub mod Calls
+pub mod Walk
 pub mod Cases
