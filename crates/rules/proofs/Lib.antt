@@ -1,5 +1,6 @@
 -- Laws of the definitions in specs/. They assume nothing.
 pub mod Words
+pub mod Bools
 pub mod Good
 pub mod Lookup
 pub mod Sound
