@@ -24,16 +24,10 @@ isGood→Good s e =
       majority = ltb-true (s .k) (2 * s .a) (passes 3);
       betaLeast = leb-true 1 (s .beta1) (passes 4);
       betasRise = leb-true (s .beta1) (s .beta2) (passes 5);
-      betaMost = leb-true (s .beta2) 510 (passes 6)
+      betaMost = leb-true (s .beta2) 510 (passes 6);
     }
 
 pub Good→isGood : (s : Setting) → Good s → isGood s ≡ true
 Good→isGood s g =
-    row-each (tests s)
-    (le-leb 1 (s .k) (g .votesLeast),
-    (le-leb (s .k) 64 (g .votesMost),
-    (le-leb (s .a) (s .k) (g .neededMost),
-    (lt-ltb (s .k) (2 * s .a) (g .majority),
-    (le-leb 1 (s .beta1) (g .betaLeast),
-    (le-leb (s .beta1) (s .beta2) (g .betasRise),
-    (le-leb (s .beta2) 510 (g .betaMost), tt)))))))
+    rw
+    (le-leb _ _ (g .votesLeast), le-leb _ _ (g .votesMost), le-leb _ _ (g .neededMost), lt-ltb _ _ (g .majority), le-leb _ _ (g .betaLeast), le-leb _ _ (g .betasRise), le-leb _ _ (g .betaMost))
