@@ -14,11 +14,6 @@ rowFrom a (b ∷ l) = rowFrom (a && b) l
 abbrev pub row : List Bool → Bool
 row = rowFrom true
 
--- each test of the row passes
-abbrev pub Each : List Bool → Type 0
-Each [] = Unit {0}
-Each (a ∷ l) = (a ≡ true) × Each l
-
 pub and-left : (a b : Bool) → (a && b) ≡ true → a ≡ true
 and-left true b e = refl
 and-left false b e = e
@@ -43,13 +38,18 @@ rowFrom-at a (b ∷ l) e (suc i) = rowFrom-at (a && b) l e i
 pub row-at : (l : List Bool) → row l ≡ true → (i : ℕ) → getD l i true ≡ true
 row-at = rowFrom-at true
 
-rowFrom-each : (a : Bool) (l : List Bool) → a ≡ true → Each l → rowFrom a l ≡ true
-rowFrom-each a [] p h = p
-rowFrom-each a (b ∷ l) p h = rowFrom-each (a && b) l (and-both a b p (h .0)) (h .1)
+-- what follows where each test of the row passes
+abbrev pub Given : List Bool → Type 0 → Type 0
+Given [] goal = goal
+Given (a ∷ l) goal = a ≡ true → Given l goal
 
--- a row passes where each of its tests does
-pub row-each : (l : List Bool) → Each l → row l ≡ true
-row-each l = rowFrom-each true l refl
+rowFrom-by : (a : Bool) (l : List Bool) → a ≡ true → Given l (rowFrom a l ≡ true)
+rowFrom-by a [] p = p
+rowFrom-by a (b ∷ l) p = λ q. rowFrom-by (a && b) l (and-both a b p q)
+
+-- a row passes by each of its tests, in their order
+pub row-by : (l : List Bool) → Given l (row l ≡ true)
+row-by l = rowFrom-by true l refl
 
 -- ---- either, and one by a test
 

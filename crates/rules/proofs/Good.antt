@@ -8,7 +8,7 @@ use lib.Dec.{ltb, leb}
 use borrow.Author.Tests.{leb-true, ltb-true, le-leb, lt-ltb}
 use Rattle.rules.specs.declared.setting.Setting.{Setting}
 use Rattle.rules.specs.Setting.{Good, isGood}
-use Rattle.rules.proofs.Bools.{row-at, row-each}
+use Rattle.rules.proofs.Bools.{row-at, row-by}
 
 abbrev tests : Setting → List Bool
 tests s =
@@ -29,5 +29,5 @@ isGood→Good s e =
 
 pub Good→isGood : (s : Setting) → Good s → isGood s ≡ true
 Good→isGood s g =
-    rw
-    (le-leb _ _ (g .votesLeast), le-leb _ _ (g .votesMost), le-leb _ _ (g .neededMost), lt-ltb _ _ (g .majority), le-leb _ _ (g .betaLeast), le-leb _ _ (g .betasRise), le-leb _ _ (g .betaMost))
+    row-by (tests s) (le-leb _ _ (g .votesLeast)) (le-leb _ _ (g .votesMost)) (le-leb _ _ (g .neededMost)) (lt-ltb _ _ (g .majority))
+    (le-leb _ _ (g .betaLeast)) (le-leb _ _ (g .betasRise)) (le-leb _ _ (g .betaMost))
