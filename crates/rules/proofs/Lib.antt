@@ -3,6 +3,8 @@ pub mod Words
 pub mod Bools
 pub mod Good
 pub mod Lookup
+pub mod Bookings
+pub mod Entries
 pub mod Sound
 pub mod Opened
 pub mod Ancestry
