@@ -1,7 +1,10 @@
 -- Laws of the definitions in specs/. They assume nothing.
 pub mod Words
+pub mod Bools
 pub mod Good
 pub mod Lookup
+pub mod Bookings
+pub mod Entries
 pub mod Sound
 pub mod Opened
 pub mod Ancestry
