@@ -51,10 +51,10 @@ parentNumber w parents a = cond (ltb a (length parents)) (numberOf (parentFound 
 
 -- ---- what a taken booking leaves
 
--- name, slot, parents, state 0, confidence 0, no ordinal
+-- name in four parts, slot, parents, state 0, confidence 0, no ordinal
 abbrev pub newRecord : List ℕ → ℕ → ℕ → List ℕ → List ℕ
 newRecord w name slot parents =
-    name / 2 ^ 48 % 65536 ∷ name / 2 ^ 32 % 65536 ∷ name / 2 ^ 16 % 65536 ∷ name % 65536
+    name / 2 ^ 48 ∷ name / 2 ^ 32 % 65536 ∷ name / 2 ^ 16 % 65536 ∷ name % 65536
     ∷ slot
     ∷ parentNumber w parents 0 ∷ parentNumber w parents 1 ∷ parentNumber w parents 2 ∷ parentNumber w parents 3
     ∷ 0 ∷ 0 ∷ 0 ∷ []

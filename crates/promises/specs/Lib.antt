@@ -1,0 +1,8 @@
+-- THE PROMISES: what a station's engineer may rely on, one named statement each. proofs/ has their proofs, from the law alone.
+pub mod Run
+pub mod Soundness
+pub mod Acceptance
+pub mod Refusals
+pub mod Confidence
+pub mod Lasting
+pub mod Ranges

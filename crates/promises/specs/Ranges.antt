@@ -1,0 +1,26 @@
+-- Every number answered lies in the range that document 01 gives.
+use mathlib.Core.Path.{_≡_}
+use mathlib.Core.List.{List}
+use mathlib.Core.Logic.{_⊎_}
+use Prim.Native.Nat.{ℕ, _≤_}
+use lib.IntN.{ℤ, pos, natAbs}
+use Rattle.rules.specs.declared.answer.Answer.{Answer}
+use Rattle.rules.specs.Answers.{number, value}
+use Rattle.rules.specs.Calls.{queryCall, acceptedCall, leadCall, confidenceCall, sizeCall}
+use Rattle.promises.specs.Run.{Call, outcomeOf}
+
+-- z is one of the numbers from least to most
+pub record Between (least most : ℕ) (z : ℤ) : Type 0 where
+  pub number : ℕ
+  pub is : z ≡ pos number
+  pub above : least ≤ number
+  pub below : number ≤ most
+
+-- the answers of any call on any words
+pub record Ranges : Type 0 where
+  pub numbers : (c : Call) (w : List ℕ) → number (outcomeOf c w .answer) ≤ 13
+  pub query : (w : List ℕ) (name : ℕ) → Between 0 1 (value (queryCall w name))
+  pub accepted : (w : List ℕ) (name : ℕ) → Between 0 1 (value (acceptedCall w name))
+  pub lead : (w : List ℕ) (name : ℕ) → natAbs (value (leadCall w name)) ≤ 511
+  pub confidence : (w : List ℕ) (name : ℕ) → Between 0 511 (value (confidenceCall w name))
+  pub size : (w : List ℕ) (name : ℕ) → number (sizeCall w name) ≡ 0 → Between 1 512 (value (sizeCall w name))

@@ -1,0 +1,108 @@
+-- Each refusal comes exactly in its listed case, the first in the order, with value 0, and changes no word.
+use mathlib.Core.Path.{_≡_}
+use mathlib.Core.List.{List}
+use mathlib.Core.Logic.{_≢_, _⊎_}
+use Prim.Native.Nat.{ℕ, _<_, _≤_}
+use lib.IntN.{ℤ, pos}
+use lib.ListN.{length, getD}
+use Rattle.rules.specs.declared.setting.Setting.{Setting}
+use Rattle.rules.specs.Answers.{number, value}
+use Rattle.rules.specs.Layout.{size, slots, mostParents, mostBookings, bookings, settingIn, nameOf, stateOf}
+use Rattle.rules.specs.Setting.{Good}
+use Rattle.rules.specs.Sound.{Sound}
+use Rattle.rules.specs.Calls.{openCall, bookCall, pollCall, readingCall}
+use Rattle.promises.specs.Run.{Call, outcomeOf}
+
+-- ---- a refused call changes nothing
+
+unfoldable pub RefusedKeeps : Type 0
+RefusedKeeps =
+    (c : Call) (w : List ℕ) → number (outcomeOf c w .answer) ≢ 0
+    → (outcomeOf c w .words ≡ w) × (value (outcomeOf c w .answer) ≡ pos 0)
+
+-- ---- the listed cases
+
+-- some booking has the name
+pub record Booked (w : List ℕ) (name : ℕ) : Type 0 where
+  pub booking : ℕ
+  pub below : booking < bookings w
+  pub named : nameOf w booking ≡ name
+
+-- some parent's name isn't booked
+pub record UnknownParent (w parents : List ℕ) : Type 0 where
+  pub place : ℕ
+  pub within : place < length parents
+  pub unknown : Booked w (getD parents place 0) → ⊥
+
+-- a parent is named twice
+pub record ParentTwice (parents : List ℕ) : Type 0 where
+  pub earlier : ℕ
+  pub later : ℕ
+  pub ordered : earlier < later
+  pub within : later < length parents
+  pub same : getD parents earlier 0 ≡ getD parents later 0
+
+-- the booking with the name is not in state 0
+pub record NotWaiting (w : List ℕ) (name : ℕ) : Type 0 where
+  pub booking : ℕ
+  pub below : booking < bookings w
+  pub named : nameOf w booking ≡ name
+  pub state : stateOf w booking ≢ 0
+
+-- some vote byte is neither 0, 1 nor 255
+pub record BadVote (votes : List ℕ) : Type 0 where
+  pub place : ℕ
+  pub within : place < length votes
+  pub silent : getD votes place 0 ≢ 0
+  pub yes : getD votes place 0 ≢ 1
+  pub minusOne : getD votes place 0 ≢ 255
+
+-- ---- the first that applies is given
+
+-- number r where the case applies, else as the rest says
+abbrev pub refuses : (r : ℕ) → Type 0 → (ℕ → Type 0) → ℕ → Type 0
+refuses r applies rest n = (applies × (n ≡ r)) ⊎ ((applies → ⊥) × rest n)
+
+abbrev pub taken : ℕ → Type 0
+taken n = n ≡ 0
+
+abbrev pub OpenListed : List ℕ → Setting → ℕ → Type 0
+OpenListed w s =
+    refuses 1 (length w ≢ size)
+    (refuses 3 (Good s → ⊥)
+    taken)
+
+abbrev pub BookListed : List ℕ → ℕ → ℕ → List ℕ → ℕ → Type 0
+BookListed w name slot parents =
+    refuses 1 (length w ≢ size)
+    (refuses 2 (Sound w → ⊥)
+    (refuses 4 (Booked w name)
+    (refuses 5 ((slot ≡ 0) ⊎ (slots ≤ slot))
+    (refuses 6 ((length parents ≡ 0) ⊎ (mostParents < length parents))
+    (refuses 7 (UnknownParent w parents)
+    (refuses 8 (ParentTwice parents)
+    (refuses 9 (bookings w ≡ mostBookings)
+    taken)))))))
+
+abbrev pub PollListed : List ℕ → ℕ → List ℕ → ℕ → Type 0
+PollListed w name votes =
+    refuses 1 (length w ≢ size)
+    (refuses 2 (Sound w → ⊥)
+    (refuses 10 (Booked w name → ⊥)
+    (refuses 11 (NotWaiting w name)
+    (refuses 12 (length votes ≢ settingIn w .k)
+    (refuses 13 (BadVote votes)
+    taken)))))
+
+abbrev pub ReadingListed : List ℕ → ℕ → ℕ → Type 0
+ReadingListed w name =
+    refuses 1 (length w ≢ size)
+    (refuses 2 (Sound w → ⊥)
+    (refuses 10 (Booked w name → ⊥)
+    taken))
+
+pub record RefusedListed : Type 0 where
+  pub opening : (w : List ℕ) (s : Setting) → OpenListed w s (number (openCall w s .answer))
+  pub booking : (w : List ℕ) (name slot : ℕ) (parents : List ℕ) → BookListed w name slot parents (number (bookCall w name slot parents .answer))
+  pub polling : (w : List ℕ) (name : ℕ) (votes : List ℕ) → PollListed w name votes (number (pollCall w name votes .answer))
+  pub reading : (f : ℕ → ℤ) (w : List ℕ) (name : ℕ) → ReadingListed w name (number (readingCall f w name))

@@ -1,0 +1,85 @@
+-- Runs: any calls, in any order and with any arguments, after a taken opening.
+use Prim.Native.Nat.{ℕ, _+_}
+use mathlib.Core.Path.{_≡_}
+use mathlib.Core.Bool.{Bool, true, false, _&&_, cond}
+use mathlib.Core.List.{List, [], _∷_}
+use Rattle.rules.specs.declared.setting.Setting.{Setting}
+use Rattle.rules.specs.declared.answer.Answer.{Answer}
+use Rattle.rules.specs.declared.answer.Answer.the-variants.{Taken, Refused}
+use Rattle.rules.specs.Answers.{Outcome, outcome}
+use Rattle.rules.specs.Book.{lookUp, numberOf}
+use Rattle.rules.specs.Poll.{isSuccess}
+use Rattle.rules.specs.Calls.{openCall, bookCall, pollCall, queryCall, acceptedCall, leadCall, confidenceCall, sizeCall}
+
+-- the eight calls
+pub data Call : Type 0 where
+  Open : Setting → Call
+  Book : (name slot : ℕ) (parents : List ℕ) → Call
+  Poll : (name : ℕ) (votes : List ℕ) → Call
+  Query : (name : ℕ) → Call
+  Accepted : (name : ℕ) → Call
+  Lead : (name : ℕ) → Call
+  Confidence : (name : ℕ) → Call
+  Size : (name : ℕ) → Call
+
+-- what a call gives on the words w
+unfoldable pub outcomeOf : Call → List ℕ → Outcome
+outcomeOf (Open s) w = openCall w s
+outcomeOf (Book name slot parents) w = bookCall w name slot parents
+outcomeOf (Poll name votes) w = pollCall w name votes
+outcomeOf (Query name) w = outcome (queryCall w name) w
+outcomeOf (Accepted name) w = outcome (acceptedCall w name) w
+outcomeOf (Lead name) w = outcome (leadCall w name) w
+outcomeOf (Confidence name) w = outcome (confidenceCall w name) w
+outcomeOf (Size name) w = outcome (sizeCall w name) w
+
+abbrev pub isTaken : Answer → Bool
+isTaken (Taken v) = true
+isTaken (Refused r) = false
+
+-- ---- the history: the bookings of the successful polls, newest first, and how many polls were taken
+
+pub record History : Type 0 where
+  pub successes : List ℕ
+  pub taken : ℕ
+
+abbrev pub fresh : History
+fresh = record { successes = []; taken = 0 }
+
+-- one taken poll more, of booking i
+abbrev pub withPoll : Bool → ℕ → History → History
+withPoll success i h = record { successes = cond success (i ∷ h .successes) (h .successes); taken = h .taken + 1 }
+
+-- it restarts at each taken opening, and refused calls leave it alone
+unfoldable pub historyAfter : Call → List ℕ → History → History
+historyAfter (Open s) w h = cond (isTaken (openCall w s .answer)) fresh h
+historyAfter (Book name slot parents) w h = h
+historyAfter (Poll name votes) w h =
+    cond (isTaken (pollCall w name votes .answer)) (withPoll (isSuccess w votes) (numberOf (lookUp w name)) h) h
+historyAfter (Query name) w h = h
+historyAfter (Accepted name) w h = h
+historyAfter (Lead name) w h = h
+historyAfter (Confidence name) w h = h
+historyAfter (Size name) w h = h
+
+-- ---- runs
+
+pub record Station : Type 0 where
+  pub words : List ℕ
+  pub history : History
+
+abbrev pub step : Call → Station → Station
+step c t = record { words = outcomeOf c (t .words) .words; history = historyAfter c (t .words) (t .history) }
+
+unfoldable pub run : List Call → Station → Station
+run [] t = t
+run (c ∷ cs) t = run cs (step c t)
+
+-- the run of the calls after a taken opening, whatever the words were before it
+pub record Opening : Type 0 where
+  pub words : List ℕ
+  pub setting : Setting
+  pub taken : isTaken (openCall words setting .answer) ≡ true
+
+abbrev pub after : Opening → List Call → Station
+after o calls = run calls (record { words = openCall (o .words) (o .setting) .words; history = fresh })

@@ -1,0 +1,1 @@
+// THE PROMISES: named statements in specs/, their proofs in proofs/. No code.
