@@ -38,6 +38,14 @@ any-two n R turn lower i j li lj q = go (decLt i j)
 
 -- ---- parents
 
+-- what holds at each of the four places
+pub at-place : (P : ℕ → Type 0) → P 0 → P 1 → P 2 → P 3 → (a : ℕ) → a < mostParents → P a
+at-place P p q r s zero u = p
+at-place P p q r s (suc zero) u = q
+at-place P p q r s (suc (suc zero)) u = r
+at-place P p q r s (suc (suc (suc zero))) u = s
+at-place P p q r s (suc (suc (suc (suc a)))) u = absurd (omega arith)
+
 abbrev parentTests : List ℕ → ℕ → List Bool
 parentTests w i =
     not (eqb (parentOf w i 0) none)
@@ -71,11 +79,7 @@ module _ (w : List ℕ) (i : ℕ) (e : parentsGood w i ≡ true) where
   parent-next (suc (suc (suc a))) u q = absurd (omega arith)
 
   parent-good : (a : ℕ) → a < mostParents → parentGood w i a ≡ true
-  parent-good zero u = parents-at 3
-  parent-good (suc zero) u = parents-at 4
-  parent-good (suc (suc zero)) u = parents-at 5
-  parent-good (suc (suc (suc zero))) u = parents-at 6
-  parent-good (suc (suc (suc (suc a)))) u = absurd (omega arith)
+  parent-good = at-place (λ a. parentGood w i a ≡ true) (parents-at 3) (parents-at 4) (parents-at 5) (parents-at 6)
 
   -- a used place holds a lower number that no earlier place holds
   parent-used : (a : ℕ) → a < mostParents → parentOf w i a ≢ none
@@ -184,7 +188,9 @@ module _ (w : List ℕ) (i : ℕ) (e : bookingGood w i ≡ true) where
     ordinalWaiting = ordinal-waiting w i (booking-at 4);
   }
 
-pub Booking→bookingGood : (w : List ℕ) (i : ℕ) → Booking w i → ordinalOf w i ≤ polls w → nameNew w i ≡ true → ordinalNew w i ≡ true → bookingGood w i ≡ true
+pub Booking→bookingGood : (w : List ℕ) (i : ℕ) → Booking w i
+    → ordinalOf w i ≤ polls w → nameNew w i ≡ true → ordinalNew w i ≡ true
+    → bookingGood w i ≡ true
 unfolding bookingGood
 Booking→bookingGood w i b most name ordinal =
     row-by (bookingTests w i) name (le-leb _ _ (b .slotLeast)) (lt-ltb _ _ (b .slotMost)) (Booking→parentsGood w i b)

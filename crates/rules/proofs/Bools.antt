@@ -1,5 +1,5 @@
 -- Laws of tests: a row of them joined by `&&` gives each and follows from each; what `||`, `not` and `cond` give.
-use mathlib.Core.Path.{_≡_, refl, sym, _∙_}
+use mathlib.Core.Path.{_≡_, refl, sym}
 use mathlib.Core.Bool.{Bool, true, false, not, _&&_, _||_, cond, true≢false}
 use mathlib.Core.List.{List, [], _∷_}
 use Prim.Native.Nat.{ℕ, zero, suc}
@@ -57,9 +57,6 @@ row-by l = rowFrom-by true l refl
 pub or-right : (a b : Bool) → (a || b) ≡ true → a ≡ false → b ≡ true
 or-right true b e f = absurd (true≢false f)
 or-right false b e f = e
-
-pub or-by-left : (a b : Bool) → a ≡ true → (a || b) ≡ true
-or-by-left a b p = rw p
 
 -- either passes where the second does whenever the first fails
 pub or-else : (a b : Bool) → (a ≡ false → b ≡ true) → (a || b) ≡ true

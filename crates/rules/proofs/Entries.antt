@@ -16,13 +16,16 @@ use Rattle.rules.proofs.Bools.{row-at, row-by}
 
 -- ---- a booking of the slot
 
+abbrev bookingOfTests : List ℕ → ℕ → ℕ → List Bool
+bookingOfTests w s i = ltb i (bookings w) ∷ eqb (slotOf w i) s ∷ []
+
 pub isBookingOf→BookingOf : (w : List ℕ) (s i : ℕ) → isBookingOf w s i ≡ true → BookingOf w s i
 isBookingOf→BookingOf w s i e =
-    let passes : (k : ℕ) → getD (ltb i (bookings w) ∷ eqb (slotOf w i) s ∷ []) k true ≡ true = row-at (ltb i (bookings w) ∷ eqb (slotOf w i) s ∷ []) e in
+    let passes : (k : ℕ) → getD (bookingOfTests w s i) k true ≡ true = row-at (bookingOfTests w s i) e in
     record { below = ltb-true i (bookings w) (passes 0); slot = eqb-true (slotOf w i) s (passes 1) }
 
 pub BookingOf→isBookingOf : (w : List ℕ) (s i : ℕ) → BookingOf w s i → isBookingOf w s i ≡ true
-BookingOf→isBookingOf w s i b = row-by (ltb i (bookings w) ∷ eqb (slotOf w i) s ∷ []) (lt-ltb _ _ (b .below)) (eq-eqb _ _ (b .slot))
+BookingOf→isBookingOf w s i b = row-by (bookingOfTests w s i) (lt-ltb _ _ (b .below)) (eq-eqb _ _ (b .slot))
 
 -- ---- an entry without bookings
 
@@ -84,7 +87,11 @@ module _ (w : List ℕ) (s : ℕ) (e : slotGood w s ≡ true) where
       go (yes q) = omega (arith, slotGood→EmptyEntry q .noCounter)
       go (no q) = leb-true (counterIn w s) (chits w) (row-at (heldTests w s) (slotGood→entryHeld q) 3)
 
-pub →slotGood : (w : List ℕ) (s : ℕ) → (bookingsOf w s ≡ 0 → EmptyEntry w s) → (bookingsOf w s ≢ 0 → HeldEntry w s) → counterIn w s ≤ chits w → slotGood w s ≡ true
+pub →slotGood : (w : List ℕ) (s : ℕ)
+    → (bookingsOf w s ≡ 0 → EmptyEntry w s)
+    → (bookingsOf w s ≢ 0 → HeldEntry w s)
+    → counterIn w s ≤ chits w
+    → slotGood w s ≡ true
 unfolding slotGood
 →slotGood w s empty held most = go (ℕ-discrete (bookingsOf w s) 0)
   where

@@ -12,7 +12,9 @@ use Rattle.rules.proofs.Bools.{row-at, row-by}
 
 abbrev tests : Setting → List Bool
 tests s =
-    leb 1 (s .k) ∷ leb (s .k) 64 ∷ leb (s .a) (s .k) ∷ ltb (s .k) (2 * s .a) ∷ leb 1 (s .beta1) ∷ leb (s .beta1) (s .beta2) ∷ leb (s .beta2) 510 ∷ []
+    leb 1 (s .k) ∷ leb (s .k) 64 ∷ leb (s .a) (s .k) ∷ ltb (s .k) (2 * s .a)
+    ∷ leb 1 (s .beta1) ∷ leb (s .beta1) (s .beta2) ∷ leb (s .beta2) 510
+    ∷ []
 
 pub isGood→Good : (s : Setting) → isGood s ≡ true → Good s
 isGood→Good s e =

@@ -1,18 +1,19 @@
 -- Laws of the lookup of a name: what is found, that on a sound workspace it is the one booking with the name, and the turns of a search.
-use mathlib.Core.Path.{_≡_, refl, sym, _∙_}
-use mathlib.Core.Bool.{Bool, true, false, cond}
+use mathlib.Core.Path.{_≡_, refl}
+use mathlib.Core.Bool.{Bool, true, false, cond, true≢false}
 use mathlib.Core.List.{List}
 use mathlib.Core.Logic.{_≢_}
 use Prim.Native.Nat.{ℕ, _+_, _<_, _≤_}
 use native.Mathlib.Omega.{arith}
+use lib.ListN.{length, getD}
 use lib.Dec.{eqb, ltb}
 use borrow.Author.Tests.{eqb-true, eqb-false, eq-eqb, ne-eqb, ltb-true, ltb-false, lt-ltb, le-ltb}
 use Rattle.loops.specs.Search.{first}
-use Rattle.loops.proofs.Search.{Searched, search-start, search-hit, search-miss, search-over, first-hit, first-before, first-unique}
+use Rattle.loops.proofs.Search.{none→, Searched, search-start, search-hit, search-miss, search-over, first-hit, first-before, first-unique}
 use Rattle.rules.specs.declared.answer.Found.{Found}
 use Rattle.rules.specs.declared.answer.Found.the-variants.{At, Absent}
 use Rattle.rules.specs.Layout.{bookings, nameOf}
-use Rattle.rules.specs.Book.{lookUp, foundBelow}
+use Rattle.rules.specs.Book.{lookUp, isFound, isAbsent, numberOf, parentFound, hasUnknown}
 use Rattle.rules.specs.Sound.{Sound}
 
 -- booking i has the name
@@ -68,10 +69,29 @@ absent-name w name e i h =
     eqb-false (nameOf w i) name
     (first-before (isNamed w name) (bookings w) i (omega (arith, foundBelow-Absent _ (bookings w) (first (isNamed w name) (bookings w)) refl e)))
 
+-- ---- what a test of the answer says
+
+pub isFound-false : (f : Found) → isFound f ≡ false → f ≡ Absent
+isFound-false (At i) e = absurd (true≢false e)
+isFound-false Absent e = refl
+
+pub isAbsent-false : (f : Found) → isAbsent f ≡ false → f ≡ At (numberOf f)
+isAbsent-false (At i) e = refl
+isAbsent-false Absent e = absurd (true≢false e)
+
+-- where no parent is unknown, each is found, below n
+module _ (w parents : List ℕ) (e : hasUnknown w parents ≡ false) (a : ℕ) (u : a < length parents) where
+  pub parent-found : parentFound w parents a ≡ At (numberOf (parentFound w parents a))
+  unfolding hasUnknown
+  parent-found = isAbsent-false _ (none→ (λ a. isAbsent (parentFound w parents a)) (length parents) e a u)
+
+  pub parent-below : numberOf (parentFound w parents a) < bookings w
+  parent-below = found-below w (getD parents a 0) (numberOf (parentFound w parents a)) parent-found
+
 -- ---- on a sound workspace a name is found at the one booking that has it
 
 pub found-is : (w : List ℕ) → Sound w → (i : ℕ) → i < bookings w → lookUp w (nameOf w i) ≡ At i
 unfolding lookUp
 found-is w sound i h =
-    rw
-    (first-unique (isNamed w (nameOf w i)) (bookings w) i h (eq-eqb (nameOf w i) (nameOf w i) refl) (λ j l. ne-eqb _ _ (sound .nameAlone j i (omega arith) h (omega arith))), lt-ltb i (bookings w) h)
+    let lower : (j : ℕ) → j < i → isNamed w (nameOf w i) j ≡ false = λ j l. ne-eqb _ _ (sound .nameAlone j i (omega arith) h (omega arith)) in
+    rw (first-unique (isNamed w (nameOf w i)) (bookings w) i h (eq-eqb (nameOf w i) _ refl) lower, lt-ltb i (bookings w) h)

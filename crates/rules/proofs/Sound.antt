@@ -52,6 +52,7 @@ use Rattle.rules.proofs.Bookings.{
   new→differs,
   differs→new,
   any-two,
+  at-place,
   stateGood→ordinalMost,
   bookingGood→nameNew,
   bookingGood→stateGood,
@@ -75,16 +76,26 @@ genesisTests w =
     ∷ eqb (parentOf w 0 3) none ∷ eqb (stateOf w 0) 1 ∷ eqb (ordinalOf w 0) 0
     ∷ []
 
+-- ordinal o + 1 is held
+abbrev isHeld : List ℕ → ℕ → Bool
+isHeld w o = any (λ i. eqb (ordinalOf w i) (o + 1)) (bookings w)
+
+-- record i is below n, or all zero
+abbrev isRest : List ℕ → ℕ → Bool
+isRest w i = ltb i (bookings w) || recordZero w i
+
 abbrev recordsTests : List ℕ → List Bool
-recordsTests w =
-    all (recordGood w) (bookings w) ∷ ordinalsHeld w ∷ all (λ i. ltb i (bookings w) || recordZero w i) mostBookings ∷ []
+recordsTests w = all (recordGood w) (bookings w) ∷ ordinalsHeld w ∷ all (isRest w) mostBookings ∷ []
+
+abbrev soundTests : List ℕ → List Bool
+soundTests w = headerGood w ∷ recordsGood w ∷ slotsGood w ∷ []
 
 -- ---- from the test to the statement
 
 module _ (w : List ℕ) (e : isSound w ≡ true) where
-  sound-at : (k : ℕ) → getD (headerGood w ∷ recordsGood w ∷ slotsGood w ∷ []) k true ≡ true
+  sound-at : (k : ℕ) → getD (soundTests w) k true ≡ true
   unfolding isSound
-  sound-at = row-at (headerGood w ∷ recordsGood w ∷ slotsGood w ∷ []) e
+  sound-at = row-at (soundTests w) e
 
   header-at : (k : ℕ) → getD (headerTests w) k true ≡ true
   unfolding headerGood
@@ -109,11 +120,9 @@ module _ (w : List ℕ) (e : isSound w ≡ true) where
   genesis-at = row-at (genesisTests w) (and-left (genesisGood w) (leb (confidenceOf w 0) (chits w)) (record-good 0 bookings-least))
 
   genesis-parents : (a : ℕ) → a < mostParents → parentOf w 0 a ≡ none
-  genesis-parents zero u = eqb-true (parentOf w 0 0) none (genesis-at 2)
-  genesis-parents (suc zero) u = eqb-true (parentOf w 0 1) none (genesis-at 3)
-  genesis-parents (suc (suc zero)) u = eqb-true (parentOf w 0 2) none (genesis-at 4)
-  genesis-parents (suc (suc (suc zero))) u = eqb-true (parentOf w 0 3) none (genesis-at 5)
-  genesis-parents (suc (suc (suc (suc a)))) u = absurd (omega arith)
+  genesis-parents =
+      at-place (λ a. parentOf w 0 a ≡ none) (eqb-true (parentOf w 0 0) none (genesis-at 2)) (eqb-true (parentOf w 0 1) none (genesis-at 3))
+      (eqb-true (parentOf w 0 2) none (genesis-at 4)) (eqb-true (parentOf w 0 3) none (genesis-at 5))
 
   booking-good : (i : ℕ) → 0 < i → i < bookings w → bookingGood w i ≡ true
   booking-good i l u =
@@ -134,14 +143,15 @@ module _ (w : List ℕ) (e : isSound w ≡ true) where
   ordinal-held : (o : ℕ) → 1 ≤ o → o ≤ polls w → (i : ℕ) × (i < bookings w) × (ordinalOf w i ≡ o)
   ordinal-held zero l u = absurd (omega arith)
   ordinal-held (suc o) l u =
-      let found = any→ (λ i. eqb (ordinalOf w i) (o + 1)) (bookings w) (all→ (λ o. any (λ i. eqb (ordinalOf w i) (o + 1)) (bookings w)) (polls w) (records-at 1) o u) in
+      let held : isHeld w o ≡ true = all→ (isHeld w) (polls w) (records-at 1) o u in
+      let found = any→ (λ i. eqb (ordinalOf w i) (o + 1)) (bookings w) held in
       (found .0, found .1, omega (arith, eqb-true (ordinalOf w (found .0)) (o + 1) (found .2)))
 
   rest-zero : (i f : ℕ) → bookings w ≤ i → i < mostBookings → f < recordWords → field w i f ≡ 0
   rest-zero i f l u v =
       eqb-true (field w i f) 0
       (all→ (λ f. eqb (field w i f) 0) recordWords
-      (or-right _ _ (all→ (λ i. ltb i (bookings w) || recordZero w i) mostBookings (records-at 2) i u) (le-ltb i (bookings w) l)) f v)
+      (or-right _ _ (all→ (isRest w) mostBookings (records-at 2) i u) (le-ltb i (bookings w) l)) f v)
 
   pub isSound→Sound : Sound w
   isSound→Sound = record {
@@ -180,7 +190,7 @@ module _ (w : List ℕ) (sound : Sound w) where
   good-genesis : genesisGood w ≡ true
   unfolding genesisGood
   good-genesis =
-      let unused : (a : ℕ) → a < mostParents → eqb (parentOf w 0 a) none ≡ true = λ a u. eq-eqb (parentOf w 0 a) none (sound .genesisParents a u) in
+      let unused : (a : ℕ) → a < mostParents → eqb (parentOf w 0 a) none ≡ true = λ a u. eq-eqb _ _ (sound .genesisParents a u) in
       row-by (genesisTests w) (eq-eqb _ _ (sound .genesisName)) (eq-eqb _ _ (sound .genesisSlot)) (unused 0 (omega arith)) (unused 1 (omega arith))
       (unused 2 (omega arith)) (unused 3 (omega arith)) (eq-eqb _ _ (sound .genesisState)) (eq-eqb _ _ (sound .genesisOrdinal))
 
@@ -191,18 +201,20 @@ module _ (w : List ℕ) (sound : Sound w) where
   new-ordinal i u =
       or-else _ _ (λ t. differs→new (ordinalOf w) i (λ j l r. sound .ordinalAlone i j u (omega arith) (omega arith) (eqb-false _ _ t) (sym r)))
 
+  good-booking : (i : ℕ) → 0 < i → i < bookings w → bookingGood w i ≡ true
+  good-booking i l u = Booking→bookingGood w i (sound .booking i l u) (sound .ordinalMost i u) (new-name i u) (new-ordinal i u)
+
   good-record : (i : ℕ) → i < bookings w → recordGood w i ≡ true
   good-record zero u = and-both _ _ good-genesis (le-leb _ _ (sound .confidenceMost 0 u))
   good-record (suc i) u =
-      rw (ne-eqb (suc i) 0 (omega arith))
-      (and-both _ _ (Booking→bookingGood w (suc i) (sound .booking (suc i) (omega arith) u) (sound .ordinalMost (suc i) u) (new-name (suc i) u) (new-ordinal (suc i) u)) (le-leb _ _ (sound .confidenceMost (suc i) u)))
+      rw (ne-eqb (suc i) 0 (omega arith)) (and-both _ _ (good-booking (suc i) (omega arith) u) (le-leb _ _ (sound .confidenceMost (suc i) u)))
 
-  held-ordinal : (o : ℕ) → o < polls w → any (λ i. eqb (ordinalOf w i) (o + 1)) (bookings w) ≡ true
+  held-ordinal : (o : ℕ) → o < polls w → isHeld w o ≡ true
   held-ordinal o u =
       let holder = sound .ordinalHeld (o + 1) (omega arith) (omega arith) in
       →any (λ i. eqb (ordinalOf w i) (o + 1)) (bookings w) (holder .0) (holder .1) (eq-eqb _ _ (holder .2))
 
-  zero-rest : (i : ℕ) → i < mostBookings → (ltb i (bookings w) || recordZero w i) ≡ true
+  zero-rest : (i : ℕ) → i < mostBookings → isRest w i ≡ true
   zero-rest i u =
       or-else _ _ (λ t. →all (λ f. eqb (field w i f) 0) recordWords (λ f v. eq-eqb _ _ (sound .restZero i f (ltb-false i (bookings w) t) u v)))
 
@@ -210,8 +222,8 @@ module _ (w : List ℕ) (sound : Sound w) where
   unfolding recordsGood
   good-records =
       row-by (recordsTests w) (→all (recordGood w) (bookings w) good-record)
-      (→all (λ o. any (λ i. eqb (ordinalOf w i) (o + 1)) (bookings w)) (polls w) held-ordinal)
-      (→all (λ i. ltb i (bookings w) || recordZero w i) mostBookings zero-rest)
+      (→all (isHeld w) (polls w) held-ordinal)
+      (→all (isRest w) mostBookings zero-rest)
 
   good-slots : slotsGood w ≡ true
   unfolding slotsGood
@@ -219,4 +231,4 @@ module _ (w : List ℕ) (sound : Sound w) where
 
   pub Sound→isSound : isSound w ≡ true
   unfolding isSound
-  Sound→isSound = row-by (headerGood w ∷ recordsGood w ∷ slotsGood w ∷ []) good-header good-records good-slots
+  Sound→isSound = row-by (soundTests w) good-header good-records good-slots
