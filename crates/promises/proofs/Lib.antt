@@ -1,1 +1,2 @@
 -- The proofs of the promises. They assume nothing.
+pub mod Taken

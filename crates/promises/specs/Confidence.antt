@@ -30,11 +30,11 @@ unfoldable pub TotalIsSummed : Type 0
 TotalIsSummed =
     (o : Opening) (calls : List Call)
     → total (confidenceOf (after o calls .words)) (bookings (after o calls .words))
-      ≡ sizes (after o calls .words) (after o calls .history .successes)
+    ≡ sizes (after o calls .words) (after o calls .history .successes)
 
 -- in every slot with a booking no rival has more confidence than the preferred one
 unfoldable pub PreferredIsMost : Type 0
 PreferredIsMost =
     (o : Opening) (calls : List Call) (i : ℕ) → i < bookings (after o calls .words)
     → confidenceOf (after o calls .words) i
-      ≤ confidenceOf (after o calls .words) (preferredIn (after o calls .words) (slotOf (after o calls .words) i))
+    ≤ confidenceOf (after o calls .words) (preferredIn (after o calls .words) (slotOf (after o calls .words) i))
