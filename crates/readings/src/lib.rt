@@ -1,3 +1,4 @@
 // What the ledger reports of a booking. Each function answers what the law's definition of the same name says, and changes nothing.
 pub mod booking;
+pub mod lead;
 pub mod size;

@@ -1,10 +1,10 @@
 // How many members a booking's ancestry has.
 use crate::booking;
 ghost use mathlib.Core.Path.{_≡_};
-ghost use Prim.Native.Nat.{_<_, _≤_};
+ghost use Prim.Native.Nat.{_<_};
 ghost use lib.ListN.{length};
 ghost use Rattle.loops.specs.Total.{bit, count};
-ghost use Rattle.rules.specs.Layout.{size, mostBookings, bookings};
+ghost use Rattle.rules.specs.Layout.{size, mostBookings};
 ghost use Rattle.rules.specs.Ancestry.{isMember};
 ghost use Rattle.rules.specs.Readings.{sizeOf};
 

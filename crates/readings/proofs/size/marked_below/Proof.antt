@@ -1,9 +1,9 @@
 -- The members counted so far are those below j, at most j.
 use Prim.Native.Nat.{_≤_, _-_}
-use mathlib.Core.Path.{_≡_, sym, ap, _∙_}
+use mathlib.Core.Path.{_≡_, sym}
 use native.Mathlib.Omega.{arith}
 use borrow.Author.Needs.{needs}
-use Rattle.loops.specs.Total.{bit, count}
+use Rattle.loops.specs.Total.{count}
 use Rattle.loops.proofs.Total.{total-zero, total-more, count-le, bit-le}
 use Rattle.rules.specs.Ancestry.{isMember}
 use Rattle.readings.proofs.size.marked_below.Statement.{statement}
