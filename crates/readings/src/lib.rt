@@ -2,3 +2,4 @@
 pub mod booking;
 pub mod lead;
 pub mod size;
+pub mod slot;
