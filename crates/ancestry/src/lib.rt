@@ -1,0 +1,77 @@
+// Who is reached from a booking, each member once: a byte for each booking, 1 at the members.
+use rules::layout;
+ghost use mathlib.Core.Path.{_≡_};
+ghost use Prim.Native.Nat.{_<_, _≤_};
+ghost use lib.ListN.{length};
+ghost use Rattle.rules.specs.Layout.{size, mostBookings, mostParents, parentOf};
+ghost use Rattle.rules.specs.Ancestry.{isMember, mark, markParents, spread, sweep, ancestry};
+
+// Whether j is marked; a number past the end is not.
+pub fn is_member(m: &[u8], j: usize) -> bool
+    ensures { λ r. ⌜ r ≡ isMember (now (m .entry)) j ⌝ }
+{
+    if j < m.len() {
+        return m[j] == 1;
+    }
+    false
+}
+
+// The marks with p marked too; a number past the end marks nothing.
+pub fn mark_one(m: &mut [u8], p: usize)
+    ensures { λ _. ⌜ now (m .exit) ≡ mark p (now (m .entry)) ⌝ }
+{
+    if p < m.len() {
+        m[p] = 1;
+    }
+}
+
+// The parent at place a of booking j, or 65535.
+pub fn parent(w: &[u16], j: usize, a: usize) -> usize
+    requires { ⌜ (length (now w) ≡ size) × (j < mostBookings) × (a < mostParents) ⌝ }
+    ensures { λ r. ⌜ r ≡ parentOf (now (w .entry)) j a ⌝ }
+{
+    words::wide(words::get(w, j, layout::PARENTS + a))
+}
+
+// The marks with the parents of j too.
+fn mark_parents(w: &[u16], m: &mut [u8], j: usize)
+    requires { ⌜ (length (now w) ≡ size) × (j < mostBookings) ⌝ }
+    ensures { λ _. ⌜ now (m .exit) ≡ markParents (now (w .entry)) j (now (m .entry)) ⌝ }
+{
+    for a in 0..layout::MOST_PARENTS {
+        mark_one(m, parent(w, j, a));
+    }
+}
+
+// The same only if j is a member.
+fn spread_one(w: &[u16], m: &mut [u8], j: usize)
+    requires { ⌜ (length (now w) ≡ size) × (j < mostBookings) ⌝ }
+    ensures { λ _. ⌜ now (m .exit) ≡ spread (now (w .entry)) j (now (m .entry)) ⌝ }
+{
+    if is_member(m, j) {
+        mark_parents(w, m, j);
+    }
+}
+
+// From n - 1 down to 0: parents are lower, so a member is met before its parents.
+fn sweep_down(w: &[u16], m: &mut [u8], n: usize)
+    requires { ⌜ (length (now w) ≡ size) × (n ≤ mostBookings) ⌝ }
+    ensures { λ _. ⌜ now (m .exit) ≡ sweep (now (w .entry)) n (now (m .entry)) ⌝ }
+{
+    let mut j = n;
+    while 0 < j {
+        j -= 1;
+        spread_one(w, m, j);
+    }
+}
+
+// The marks of booking i's ancestry.
+pub fn marks_of(w: &[u16], i: usize) -> [u8; layout::MOST_BOOKINGS]
+    requires { ⌜ (length (now w) ≡ size) × (i < mostBookings) ⌝ }
+    ensures { λ r. ⌜ r ≡ ancestry (now (w .entry)) i ⌝ }
+{
+    let mut m = [0u8; layout::MOST_BOOKINGS];
+    mark_one(&mut m, i);
+    sweep_down(w, &mut m, i + 1);
+    m
+}
