@@ -30,7 +30,12 @@ pub fn count_yes(votes: &[u8]) -> usize
 fn is_refused(byte: u8) -> bool
     ensures { λ r. ⌜ r ≡ isRefused (voteOf byte) ⌝ }
 {
-    if let Vote::Refused = vote::read_vote(byte) { true } else { false }
+    match vote::read_vote(byte) {
+        Vote::Yes => false,
+        Vote::No => false,
+        Vote::Silent => false,
+        Vote::Refused => true,
+    }
 }
 
 pub fn has_refused(votes: &[u8]) -> bool

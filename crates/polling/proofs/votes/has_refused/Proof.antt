@@ -1,46 +1,58 @@
+-- No vote below j is refused: the first refused one is met by the loop, or there is none.
+use Prim.Native.Nat.{ℕ, _≤_, _-_}
+use mathlib.Core.Path.{_≡_, sym, _∙_}
+use mathlib.Core.Bool.{Bool}
+use mathlib.Core.List.{List}
+use lib.ListN.{length, getD}
+use native.Mathlib.Omega.{arith}
+use borrow.Author.Needs.{needs}
+use borrow.Author.Tests.{le-ltb}
+use Rattle.loops.specs.Search.{first}
+use Rattle.loops.proofs.Search.{Searched, search-start, search-miss, search-over, →any}
+use Rattle.rules.specs.Votes.{voteOf, isRefused}
 use Rattle.polling.proofs.votes.has_refused.Statement.{statement}
 use Rattle.polling.proofs.votes.has_refused.Tie as tie
-use Rattle.polling.proofs.votes.has_refused.Reads as reads
-use Rattle.polling.proofs.votes.has_refused.Lts as lts
-use Rattle.polling.proofs.votes.is_refused.Reads as is-refused-reads
+
+abbrev refusedAt : List ℕ → ℕ → Bool
+refusedAt votes i = isRefused (voteOf (getD votes i 0))
 
 abbrev Inv-loop : tie.InvT-loop
-Inv-loop votes j₀ j-end j = ?
+Inv-loop votes j₀ j-end j = (j ≤ length votes) × Searched (refusedAt votes) (length votes) j
 
 abbrev μ-loop : tie.MeasureT-loop
-μ-loop votes j₀ j-end j = ?
+μ-loop votes j₀ j-end j = length votes - j
 
--- src/votes.rt:39:5
 loop-holds : tie.Need-loop-holds Inv-loop μ-loop
-loop-holds c = ?
+loop-holds c = (search needs, search-start _ _)
 
--- src/votes.rt:40:23
 shared-slice-read-is-refused : tie.Need-shared-slice-read-is-refused Inv-loop μ-loop
-shared-slice-read-is-refused c = ?
+shared-slice-read-is-refused c = omega arith
 
--- src/votes.rt:40:12
 is-refused-requires : tie.Need-is-refused-requires Inv-loop μ-loop
-is-refused-requires c κs = ?
+is-refused-requires c κs = search needs
 
--- src/votes.rt:41:13
-returns : tie.Need-returns Inv-loop μ-loop
-returns c = ?
+found : tie.Need-returns Inv-loop μ-loop
+found c =
+    let L = c .before .before .before .before in
+    let votes = L .before .before .args .votes .now in
+    sym (→any (refusedAt votes) (length votes) (L .loop .j) (omega arith) (sym (c .before .is-refused .ensures) ∙ c .if1 .taken))
 
--- src/votes.rt:39:9
 add-j : tie.Need-add-j Inv-loop μ-loop
-add-j c = ?
+add-j c = omega arith
 
--- src/votes.rt:39:5
 loop-less : tie.Need-loop-less Inv-loop μ-loop
-loop-less c = ?
+loop-less c = omega arith
 
--- src/votes.rt:39:5
 loop-again : tie.Need-loop-again Inv-loop μ-loop
-loop-again c = ?
+loop-again c =
+    let L = c .before .before .before .before .loop in
+    (omega arith, search-miss _ _ _ (L .inv .1) (omega arith) (sym (c .before .is-refused .ensures) ∙ c .if1 .left))
 
--- src/votes.rt:36:1
-returns-2 : tie.Need-returns-2 Inv-loop μ-loop
-returns-2 c = ?
+none-refused : tie.Need-returns-2 Inv-loop μ-loop
+none-refused c =
+    let votes = c .before .before .before .args .votes .now in
+    let e : first (refusedAt votes) (length votes) ≡ c .before .loop .j = search-over _ _ _ (c .before .loop .inv .1) (omega arith) in
+    sym (le-ltb (first (refusedAt votes) (length votes)) (length votes) (omega arith))
 
 pub has-refused-spec : {M : Type 1} → statement M
 has-refused-spec =
@@ -51,8 +63,8 @@ has-refused-spec =
     loop-holds
     shared-slice-read-is-refused
     is-refused-requires
-    returns
+    found
     add-j
     loop-less
     loop-again
-    returns-2)
+    none-refused)

@@ -27,19 +27,19 @@ enum-told-4 c = search needs
 
 -- src/votes.rt:9:1
 returns : tie.Need-returns
-returns c = ?
+returns c = simp (← c .before .before .read-vote .ensures, c .enum-told .given .1)
 
 -- src/votes.rt:9:1
 returns-2 : tie.Need-returns-2
-returns-2 c = ?
+returns-2 c = simp (← c .before .before .read-vote .ensures, c .enum-told2 .given .1)
 
 -- src/votes.rt:9:1
 returns-3 : tie.Need-returns-3
-returns-3 c = ?
+returns-3 c = simp (← c .before .before .read-vote .ensures, c .enum-told3 .given .1)
 
 -- src/votes.rt:9:1
 returns-4 : tie.Need-returns-4
-returns-4 c = ?
+returns-4 c = simp (← c .before .before .read-vote .ensures, c .enum-told4 .given .1)
 
 pub yes-bit-spec : {M : Type 1} → statement M
 yes-bit-spec =
