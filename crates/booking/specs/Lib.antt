@@ -1,0 +1,2 @@
+-- What a taken booking leaves, for parents that are handed in as numbers.
+pub mod Numbered

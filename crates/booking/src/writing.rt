@@ -1,0 +1,75 @@
+// A taken booking becomes number n, and enters its slot.
+use rules::layout;
+ghost use mathlib.Core.Path.{_≡_};
+ghost use Prim.Native.Nat.{_<_};
+ghost use lib.ListN.{length};
+ghost use lib.Seq.{sets};
+ghost use Rattle.rules.specs.Layout.{size, mostBookings, slots, recordWords, slotWords, none, bookings, recordAt, slotAt, heldIn};
+ghost use Rattle.rules.specs.Book.{entered};
+ghost use Rattle.rules.specs.Sound.{Ledger};
+ghost use Rattle.booking.specs.Numbered.{newRow, bookedWith};
+
+// The record of a booking: the name's four parts, highest first, the slot, the parents, state 0, confidence 0 and no ordinal.
+fn new_row(name: u64, slot: u16, p: &[u16; 4]) -> [u16; layout::RECORD_WORDS]
+    ensures { λ r. ⌜ r ≡ newRow name slot (now (p .entry)) ⌝ }
+{
+    [
+        ((name >> 48) % 65536) as u16,
+        ((name >> 32) % 65536) as u16,
+        ((name >> 16) % 65536) as u16,
+        (name % 65536) as u16,
+        slot,
+        p[0],
+        p[1],
+        p[2],
+        p[3],
+        0,
+        0,
+        0,
+    ]
+}
+
+// All the words of record i.
+fn put_record(w: &mut [u16], i: usize, row: &[u16])
+    requires { ⌜ (length (now w) ≡ size) × (i < mostBookings) × (length (now row) ≡ recordWords) ⌝ }
+    ensures { λ _. ⌜ now (w .exit) ≡ sets (now (w .entry)) (recordAt i 0) (now (row .entry)) ⌝ }
+{
+    for f in 0..layout::RECORD_WORDS {
+        words::set_field(w, i, f, row[f]);
+    }
+}
+
+// All the words of slot entry s.
+fn put_entry(w: &mut [u16], s: usize, row: &[u16])
+    requires { ⌜ (length (now w) ≡ size) × (s < slots) × (length (now row) ≡ slotWords) ⌝ }
+    ensures { λ _. ⌜ now (w .exit) ≡ sets (now (w .entry)) (slotAt s 0) (now (row .entry)) ⌝ }
+{
+    for f in 0..layout::SLOT_WORDS {
+        words::set_entry(w, s, f, row[f]);
+    }
+}
+
+// The first booking of a slot is preferred and last there; a later one is only counted.
+fn enter_slot(w: &mut [u16], s: usize, i: u16)
+    requires { ⌜ (length (now w) ≡ size) × (s < slots) × (heldIn (now w) s < none) ⌝ }
+    ensures { λ _. ⌜ now (w .exit) ≡ entered s i (now (w .entry)) ⌝ }
+{
+    let held = words::get_entry(w, s, layout::HELD);
+    if held == 0 {
+        let row: [u16; layout::SLOT_WORDS] = [i, i, 0, 1];
+        put_entry(w, s, &row);
+    } else {
+        words::set_entry(w, s, layout::HELD, held + 1);
+    }
+}
+
+pub fn write_booking(w: &mut [u16], name: u64, slot: u16, p: &[u16; 4])
+    requires { ⌜ Ledger (now w) × (bookings (now w) < mostBookings) × (slot < slots) ⌝ }
+    ensures { λ _. ⌜ now (w .exit) ≡ bookedWith (now (w .entry)) name slot (now (p .entry)) ⌝ }
+{
+    let n = words::head(w, layout::BOOKINGS);
+    let row = new_row(name, slot, p);
+    put_record(w, words::wide(n), &row);
+    enter_slot(w, words::wide(slot), n);
+    words::set_head(w, layout::BOOKINGS, n + 1);
+}

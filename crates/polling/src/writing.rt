@@ -1,0 +1,35 @@
+// What a taken poll leaves, for success and for failure.
+use crate::raising;
+use crate::settling;
+use rules::layout;
+ghost use mathlib.Core.Path.{_≡_};
+ghost use Prim.Native.Nat.{_<_};
+ghost use lib.ListN.{length};
+ghost use Rattle.rules.specs.Layout.{mostBookings, bookings};
+ghost use Rattle.rules.specs.Sound.{Ledger};
+ghost use Rattle.rules.specs.Poll.{failed};
+ghost use Rattle.polling.specs.Marked.{succeededWith};
+
+// The states that a poll writes, as rules::vote reads them.
+const FAILED: u16 = 1;
+
+const CHIT: u16 = 2;
+
+// The state becomes 1, and nothing else but p and the ordinal moves.
+pub fn write_failure(w: &mut [u16], i: usize)
+    requires { ⌜ Ledger (now w) × (i < bookings (now w)) ⌝ }
+    ensures { λ _. ⌜ now (w .exit) ≡ failed (now (w .entry)) i ⌝ }
+{
+    raising::note(w, i, FAILED);
+}
+
+// The state becomes 2; every member of the marks is raised, and only then each is settled.
+pub fn write_success(w: &mut [u16], m: &[u8], i: usize)
+    requires { ⌜ Ledger (now w) × (i < bookings (now w)) × (length (now m) ≡ mostBookings) ⌝ }
+    ensures { λ _. ⌜ now (w .exit) ≡ succeededWith (now (m .entry)) (now (w .entry)) i ⌝ }
+{
+    let n = words::wide(words::head(w, layout::BOOKINGS));
+    raising::note(w, i, CHIT);
+    raising::raise(w, m, n);
+    settling::settle(w, m, n);
+}
