@@ -12,7 +12,7 @@ parentNumbers w parents = parentNumber w parents 0 ∷ parentNumber w parents 1 
 
 abbrev pub newRow : ℕ → ℕ → List ℕ → List ℕ
 newRow name slot p =
-    name / 2 ^ 48 % 65536 ∷ name / 2 ^ 32 % 65536 ∷ name / 2 ^ 16 % 65536 ∷ name % 65536
+    name / 2 ^ 48 ∷ name / 2 ^ 32 % 65536 ∷ name / 2 ^ 16 % 65536 ∷ name % 65536
     ∷ slot
     ∷ getD p 0 0 ∷ getD p 1 0 ∷ getD p 2 0 ∷ getD p 3 0
     ∷ 0 ∷ 0 ∷ 0 ∷ []

@@ -14,7 +14,7 @@ fn new_row(name: u64, slot: u16, p: &[u16; 4]) -> [u16; layout::RECORD_WORDS]
     ensures { λ r. ⌜ r ≡ newRow name slot (now (p .entry)) ⌝ }
 {
     [
-        ((name >> 48) % 65536) as u16,
+        (name >> 48) as u16,
         ((name >> 32) % 65536) as u16,
         ((name >> 16) % 65536) as u16,
         (name % 65536) as u16,
