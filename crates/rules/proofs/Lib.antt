@@ -11,5 +11,6 @@ pub mod Ancestry
 pub mod Accepted
 pub mod Readings
 pub mod Calls
+pub mod Tested
 pub mod Walk
 pub mod Cases
