@@ -8,7 +8,20 @@ ghost use Rattle.rules.specs.Layout.{size, headerWords, recordWords, slotWords}
 ghost use Rattle.rules.specs.Open.{openHeader, openRecord, openEntry, openWord, opened};
 
 // Name 0, slot 0, no parents, polled without a chit.
-const GENESIS: [u16; 12] = [0, 0, 0, 0, 0, layout::NONE, layout::NONE, layout::NONE, layout::NONE, 1, 0, 0];
+const GENESIS: [u16; 12] = [
+    0,
+    0,
+    0,
+    0,
+    0,
+    layout::NONE,
+    layout::NONE,
+    layout::NONE,
+    layout::NONE,
+    1,
+    0,
+    0,
+];
 
 // Slot 0 holds the genesis, which is preferred and last there.
 const FIRST_ENTRY: [u16; 4] = [0, 0, 0, 1];
@@ -36,7 +49,11 @@ fn entry_word(s: usize, f: usize) -> u16
     requires { ⌜ f < slotWords ⌝ }
     ensures { λ r. ⌜ r ≡ getD (openEntry s) f 0 ⌝ }
 {
-    if s == 0 { FIRST_ENTRY[f] } else { EMPTY_ENTRY[f] }
+    if s == 0 {
+        FIRST_ENTRY[f]
+    } else {
+        EMPTY_ENTRY[f]
+    }
 }
 
 // Word j: of the header, of a record, of a slot entry.

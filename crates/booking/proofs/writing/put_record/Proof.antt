@@ -47,8 +47,7 @@ loop-less c = omega arith
 loop-again : tie.Need-loop-again Inv-loop μ-loop
 loop-again c =
     let L = c .before .before .before .before .before .before in
-    let S = L .before .before .before in
-    (
+    let S = L .before .before .before in (
       omega arith,
       omega (arith, c .before .before .set-field .kept .0),
       c .before .before .set-field .ensures ∙ rw (L .loop .inv .2) (sets-more (S .args .w .now) (S .args .row .now) _ (L .loop .f) _ (omega arith) (omega arith)),

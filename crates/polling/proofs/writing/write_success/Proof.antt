@@ -36,9 +36,11 @@ settle-requires : tie.Need-settle-requires
 settle-requires c κs =
     let R = c .before .before .before in
     let N = R .before .before .before .before in
-    let S = N .before .before .before .before .before .before .before in
-    (rw (R .raise .ensures, N .note .ensures, N .before .before .wide .ensures .0, N .before .before .before .head .ensures)
-    (raised-noted-settling (S .args .w .now) (S .args .i) 2 (S .args .m .now) _ (omega (arith, S .pre .0 .sound .bookingsMost)) (Ledger→Settling (S .pre .0))), search needs)
+    let S = N .before .before .before .before .before .before .before in (
+      rw (R .raise .ensures, N .note .ensures, N .before .before .wide .ensures .0, N .before .before .before .head .ensures)
+          (raised-noted-settling (S .args .w .now) (S .args .i) 2 (S .args .m .now) _ (omega (arith, S .pre .0 .sound .bookingsMost)) (Ledger→Settling (S .pre .0))),
+      search needs,
+    )
 
 -- src/writing.rt:27:1
 same-length : tie.Need-same-length

@@ -1,0 +1,2 @@
+-- Which of the five readings is asked for.
+pub mod Asked
