@@ -1,2 +1,4 @@
 -- The proofs of the promises. They assume nothing.
 pub mod Taken
+pub mod Entered
+pub mod Booked
