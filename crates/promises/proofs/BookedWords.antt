@@ -88,9 +88,9 @@ module _ (w : List ℕ) (name slot : ℕ) (parents : List ℕ) where
 
   -- ---- the header
 
-  pub bookings-booked : 0 < length w → bookings (booked w name slot parents) ≡ bookings w + 1
+  pub bookings-booked : length w ≡ size → bookings (booked w name slot parents) ≡ bookings w + 1
   unfolding booked
-  bookings-booked h = header-withHeader-same placed bookingsField (bookings w + 1) (omega (arith, length-placed))
+  bookings-booked whole = header-withHeader-same placed bookingsField (bookings w + 1) (omega (arith, length-placed))
 
   pub header-booked-kept : (g : ℕ) → 0 < g → g < headerWords → header (booked w name slot parents) g ≡ header w g
   unfolding booked

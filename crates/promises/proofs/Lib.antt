@@ -2,4 +2,6 @@
 pub mod Taken
 pub mod Entered
 pub mod BookedWords
+pub mod BookedRecords
+pub mod BookedSlots
 pub mod Booked
