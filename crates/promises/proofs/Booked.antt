@@ -1,11 +1,12 @@
 -- A taken booking leaves a ledger, in which every booking of before stays and the preferred one still leads its slot.
 use mathlib.Core.Path.{_≡_, _∙_}
 use mathlib.Core.List.{List}
-use Prim.Native.Nat.{ℕ, _+_, _<_, _≤_}
+use Prim.Native.Nat.{ℕ, _+_, _<_}
 use native.Mathlib.Omega.{arith}
 use Rattle.rules.specs.Layout.{recordWords, spareField, slotField, parentsField, stateField, ordinalField, field, bookings, polls}
 use Rattle.rules.specs.Sound.{Sound, Ledger}
 use Rattle.rules.specs.Book.{booked}
+use Rattle.promises.specs.Lasting.{Grown}
 use Rattle.promises.proofs.Taken.{Bookable}
 use Rattle.promises.proofs.BookedWords.{length-booked, bookings-booked, header-booked-kept, polls-booked, settingIn-booked}
 use Rattle.promises.proofs.BookedRecords.{
@@ -58,3 +59,12 @@ module _ (w : List ℕ) (name slot : ℕ) (parents : List ℕ) (ledger : Ledger 
 
   pub booked-ledger : Ledger (booked w name slot parents)
   booked-ledger = record { whole = length-booked w name slot parents ∙ ledger .whole; sound = booked-sound }
+
+  -- no booking of before loses its name, slot or parents
+  pub booked-grown : Grown w (booked w name slot parents)
+  booked-grown = record {
+    more = omega (arith, bookings-booked w name slot parents (ledger .whole));
+    name = nameOf-booked-old w name slot parents ledger bookable;
+    slot = λ i u. field-booked-old w name slot parents ledger bookable i slotField u (omega arith);
+    parent = λ i a u h. field-booked-old w name slot parents ledger bookable i (parentsField + a) u (omega arith);
+  }
