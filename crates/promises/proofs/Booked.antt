@@ -1,17 +1,46 @@
 -- A taken booking leaves a ledger, in which every booking of before stays and the preferred one still leads its slot.
-use mathlib.Core.Path.{_≡_, _∙_}
+use mathlib.Core.Path.{_≡_, refl, _∙_}
 use mathlib.Core.List.{List}
-use Prim.Native.Nat.{ℕ, _+_, _<_}
+use mathlib.Core.Logic.{_≢_}
+use Prim.Native.Nat.{ℕ, zero, suc, _+_, _<_, _≤_}
 use native.Mathlib.Omega.{arith}
-use Rattle.rules.specs.Layout.{recordWords, spareField, slotField, parentsField, stateField, ordinalField, field, bookings, polls}
+use lib.Dec.{eqb}
+use borrow.Author.Tests.{eq-eqb}
+use Rattle.loops.proofs.Total.{count-some}
+use Rattle.rules.specs.Layout.{
+  slots,
+  recordWords,
+  spareField,
+  slotField,
+  parentsField,
+  stateField,
+  ordinalField,
+  preferredField,
+  field,
+  bookings,
+  polls,
+  slotOf,
+  confidenceOf,
+  preferredIn,
+}
+use Rattle.rules.specs.IsSound.{bookingsOf}
 use Rattle.rules.specs.Sound.{Sound, Ledger}
 use Rattle.rules.specs.Book.{booked}
 use Rattle.promises.specs.Lasting.{Grown}
-use Rattle.promises.proofs.Taken.{Bookable}
-use Rattle.promises.proofs.BookedWords.{length-booked, bookings-booked, header-booked-kept, polls-booked, settingIn-booked}
+use Rattle.promises.proofs.Taken.{Bookable, Led}
+use Rattle.promises.proofs.BookedWords.{
+  length-booked,
+  bookings-booked,
+  header-booked-kept,
+  polls-booked,
+  settingIn-booked,
+  confidenceOf-booked-same,
+}
 use Rattle.promises.proofs.BookedRecords.{
+  each-booked,
   field-booked-old,
   nameOf-booked-old,
+  confidenceOf-booked-old,
   chits-booked,
   Booking-booked,
   nameOf-booked-alone,
@@ -21,7 +50,24 @@ use Rattle.promises.proofs.BookedRecords.{
   confidenceOf-booked-most,
   field-booked-rest,
 }
-use Rattle.promises.proofs.BookedSlots.{EmptyEntry-booked, HeldEntry-booked, counterIn-booked-most}
+use Rattle.promises.proofs.BookedSlots.{entry-booked-kept, EmptyEntry-booked, HeldEntry-booked, counterIn-booked-most}
+
+-- ---- a booking's slot on a ledger: it is within the limit and has bookings, of which the preferred is one
+
+module _ (w : List ℕ) (sound : Sound w) where
+  pub slotOf-lt : (i : ℕ) → i < bookings w → slotOf w i < slots
+  slotOf-lt zero u = omega (arith, sound .genesisSlot)
+  slotOf-lt (suc i) u = sound .booking (suc i) (omega arith) u .slotMost
+
+  module _ (i : ℕ) (below : i < bookings w) where
+    pub bookingsOf-some : bookingsOf w (slotOf w i) ≢ 0
+    unfolding bookingsOf
+    bookingsOf-some e = omega (arith, count-some (λ j. eqb (slotOf w j) (slotOf w i)) (bookings w) i below (eq-eqb (slotOf w i) (slotOf w i) refl))
+
+    pub preferredIn-lt : preferredIn w (slotOf w i) < bookings w
+    preferredIn-lt = sound .heldEntry (slotOf w i) (slotOf-lt i below) bookingsOf-some .preferred .below
+
+-- ---- after a taken booking
 
 module _ (w : List ℕ) (name slot : ℕ) (parents : List ℕ) (ledger : Ledger w) (bookable : Bookable w name slot parents) where
   -- the genesis is one of the old records
@@ -68,3 +114,20 @@ module _ (w : List ℕ) (name slot : ℕ) (parents : List ℕ) (ledger : Ledger 
     slot = λ i u. field-booked-old w name slot parents ledger bookable i slotField u (omega arith);
     parent = λ i a u h. field-booked-old w name slot parents ledger bookable i (parentsField + a) u (omega arith);
   }
+
+  -- an old booking's slot has bookings, so it keeps its preferred one
+  preferred-kept : (i : ℕ) → i < bookings w → preferredIn (booked w name slot parents) (slotOf w i) ≡ preferredIn w (slotOf w i)
+  preferred-kept i u =
+      entry-booked-kept w name slot parents ledger bookable (slotOf w i) preferredField (slotOf-lt w (ledger .sound) i u)
+      (bookingsOf-some w (ledger .sound) i u) (omega arith) (omega arith)
+
+  -- and the new one has no confidence, whomever its slot prefers
+  pub booked-led : Led w → Led (booked w name slot parents)
+  booked-led led =
+      let after : List ℕ = booked w name slot parents in
+      let kept : (i : ℕ) → i < bookings w → confidenceOf after i ≡ confidenceOf w i = confidenceOf-booked-old w name slot parents ledger bookable in
+      each-booked w name slot parents ledger bookable (λ i. confidenceOf after i ≤ confidenceOf after (preferredIn after (slotOf after i)))
+      (omega (arith, confidenceOf-booked-same w name slot parents (ledger .whole) (bookable .room)))
+      (λ i u.
+      rw (booked-grown .slot i u, preferred-kept i u, kept i u, kept (preferredIn w (slotOf w i)) (preferredIn-lt w (ledger .sound) i u))
+      (led i u))

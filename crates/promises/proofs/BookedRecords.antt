@@ -83,6 +83,9 @@ module _ (w : List ℕ) (name slot : ℕ) (parents : List ℕ) where
     pub nameOf-booked-old : (i : ℕ) → i < bookings w → nameOf after i ≡ nameOf w i
     nameOf-booked-old i u = nameOf-booked-other w name slot parents i (omega (arith, bookable .room)) (omega arith)
 
+    pub confidenceOf-booked-old : (i : ℕ) → i < bookings w → confidenceOf after i ≡ confidenceOf w i
+    confidenceOf-booked-old i u = field-booked-old i confidenceField u (omega arith)
+
     new-name : nameOf after (bookings w) ≡ name
     new-name = nameOf-booked-same w name slot parents (ledger .whole) (bookable .room)
 
@@ -197,7 +200,7 @@ module _ (w : List ℕ) (name slot : ℕ) (parents : List ℕ) where
     confidenceOf-booked-most =
         each-booked (λ i. confidenceOf after i ≤ chits w)
         (omega (arith, confidenceOf-booked-same w name slot parents (ledger .whole) (bookable .room)))
-        (λ i u. omega (arith, field-booked-old i confidenceField u (omega arith), ledger .sound .confidenceMost i u))
+        (λ i u. omega (arith, confidenceOf-booked-old i u, ledger .sound .confidenceMost i u))
 
     pub field-booked-rest : (i g : ℕ) → bookings after ≤ i → i < mostBookings → g < recordWords → field after i g ≡ 0
     field-booked-rest i g l u h =
