@@ -1,2 +1,3 @@
 -- The proofs of the promises. They assume nothing.
 pub mod Taken
+pub mod Acceptance
