@@ -1,7 +1,7 @@
 -- What a taken call has passed: each of its tests failed, so the fact that each refusal would deny holds, and its words are the rule's.
 -- What a refused call leaves: every word. Assumes nothing.
 use mathlib.Core.Path.{_≡_, refl, sym, ap}
-use mathlib.Core.Bool.{Bool, true, false, not, _||_, cond, true≢false}
+use mathlib.Core.Bool.{Bool, true, false, _||_, cond, true≢false}
 use mathlib.Core.List.{List}
 use mathlib.Core.Logic.{_≢_}
 use Prim.Native.Nat.{ℕ, _<_, _≤_}
@@ -95,12 +95,12 @@ module _ {v : ℤ} where
   asked-passed Absent rest e = absurd (true≢false (sym (ap isTaken e)))
 
 -- neither of two tests passed
-pub neither : (a b : Bool) → (a || b) ≡ false → (a ≡ false) × (b ≡ false)
+neither : (a b : Bool) → (a || b) ≡ false → (a ≡ false) × (b ≡ false)
 neither true b e = absurd (true≢false e)
 neither false b e = (refl, e)
 
 -- no parent is named twice
-pub distinct-names : (parents : List ℕ) → hasTwice parents ≡ false → (a b : ℕ) → a < b → b < length parents → getD parents a 0 ≢ getD parents b 0
+distinct-names : (parents : List ℕ) → hasTwice parents ≡ false → (a b : ℕ) → a < b → b < length parents → getD parents a 0 ≢ getD parents b 0
 unfolding hasTwice
 distinct-names parents e a b l h =
     eqb-false _ _ (none→ (λ c. eqb (getD parents c 0) (getD parents b 0)) b (none→ (λ d. any (λ c. eqb (getD parents c 0) (getD parents d 0)) d) (length parents) e b h) a l)
