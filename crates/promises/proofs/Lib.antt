@@ -2,3 +2,4 @@
 pub mod Taken
 pub mod Acceptance
 pub mod Refusals
+pub mod Ranges
