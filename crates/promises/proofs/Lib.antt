@@ -6,3 +6,6 @@ pub mod BookedWords
 pub mod BookedRecords
 pub mod BookedSlots
 pub mod Booked
+pub mod Acceptance
+pub mod Refusals
+pub mod Ranges

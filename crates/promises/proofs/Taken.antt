@@ -1,12 +1,36 @@
--- What a taken booking and a taken poll have passed: the facts that their refusals leave.
-use mathlib.Core.Path.{_≡_}
-use mathlib.Core.Bool.{false}
+-- What a taken call has passed: each of its tests failed, so the fact that each refusal would deny holds, and its words are the rule's.
+-- What a refused call leaves: every word. Assumes nothing.
+use mathlib.Core.Path.{_≡_, refl, sym, ap}
+use mathlib.Core.Bool.{Bool, true, false, _||_, cond, true≢false}
 use mathlib.Core.List.{List}
 use mathlib.Core.Logic.{_≢_}
 use Prim.Native.Nat.{ℕ, _<_, _≤_}
+use native.Mathlib.Omega.{arith}
+use lib.IntN.{ℤ}
 use lib.ListN.{length, getD}
-use Rattle.rules.specs.Layout.{mostBookings, mostParents, slots, bookings, nameOf, stateOf, slotOf, confidenceOf, preferredIn}
-use Rattle.rules.specs.Book.{hasUnknown}
+use lib.Dec.{eqb, leb, ltb}
+use borrow.Author.Tests.{eqb-true, eqb-false, leb-false, ltb-false, not-false}
+use Rattle.loops.specs.Search.{any}
+use Rattle.loops.proofs.Search.{none→}
+use Rattle.rules.specs.declared.setting.Setting.{Setting}
+use Rattle.rules.specs.declared.answer.Found.{Found}
+use Rattle.rules.specs.declared.answer.Found.the-variants.{At, Absent}
+use Rattle.rules.specs.declared.answer.Refusal.{Refusal}
+use Rattle.rules.specs.declared.answer.Answer.{Answer}
+use Rattle.rules.specs.declared.answer.Answer.the-variants.{Taken, Refused}
+use Rattle.rules.specs.Answers.{value, leaves}
+use Rattle.rules.specs.Layout.{size, mostBookings, mostParents, slots, bookings, nameOf, stateOf, slotOf, confidenceOf, preferredIn}
+use Rattle.rules.specs.Setting.{Good}
+use Rattle.rules.specs.IsSound.{isSound}
+use Rattle.rules.specs.Sound.{Ledger}
+use Rattle.rules.specs.Open.{opened}
+use Rattle.rules.specs.Book.{lookUp, numberOf, hasUnknown, hasTwice, booked}
+use Rattle.rules.specs.Poll.{polled}
+use Rattle.rules.specs.Calls.{openAnswer, openCall, tested, bookAnswer, bookCall, askedOf, pollAnswer, pollCall, readingCall}
+use Rattle.rules.proofs.Good.{isGood→Good}
+use Rattle.rules.proofs.Sound.{isSound→Sound}
+use Rattle.rules.proofs.Lookup.{isFound-false, absent-name, found-below}
+use Rattle.promises.specs.Run.{isTaken}
 
 -- a booking that no refusal stops
 pub record Bookable (w : List ℕ) (name slot : ℕ) (parents : List ℕ) : Type 0 where
@@ -27,3 +51,111 @@ pub record Pollable (w : List ℕ) (i : ℕ) : Type 0 where
 -- no rival has more confidence than the preferred one
 abbrev pub Led : List ℕ → Type 0
 Led w = (i : ℕ) → i < bookings w → confidenceOf w i ≤ confidenceOf w (preferredIn w (slotOf w i))
+
+-- ---- what a call leaves
+
+leaves-taken : (a : Answer) (before after : List ℕ) → isTaken (leaves a before after .answer) ≡ true
+    → (v : ℤ) × (a ≡ Taken v) × (leaves a before after .words ≡ after)
+leaves-taken (Taken v) before after e = (v, refl, refl)
+leaves-taken (Refused r) before after e = absurd (true≢false (sym e))
+
+leaves-kept : (a : Answer) (before after : List ℕ) → isTaken (leaves a before after .answer) ≡ false → leaves a before after .words ≡ before
+leaves-kept (Taken v) before after e = absurd (true≢false e)
+leaves-kept (Refused r) before after e = refl
+
+-- a refused call leaves every word
+pub open-kept : (w : List ℕ) (s : Setting) → isTaken (openCall w s .answer) ≡ false → openCall w s .words ≡ w
+unfolding openCall
+open-kept w s = leaves-kept (openAnswer w s) w (opened s)
+
+pub book-kept : (w : List ℕ) (name slot : ℕ) (parents : List ℕ) → isTaken (bookCall w name slot parents .answer) ≡ false
+    → bookCall w name slot parents .words ≡ w
+unfolding bookCall
+book-kept w name slot parents = leaves-kept (bookAnswer isSound w name slot parents) w (booked w name slot parents)
+
+pub poll-kept : (w : List ℕ) (name : ℕ) (votes : List ℕ) → isTaken (pollCall w name votes .answer) ≡ false → pollCall w name votes .words ≡ w
+unfolding pollCall
+poll-kept w name votes = leaves-kept (pollAnswer isSound w name votes) w (polled w (numberOf (lookUp w name)) votes)
+
+-- ---- the tests that a taken call has passed
+
+module _ {v : ℤ} where
+  passed : (t : Bool) (r : Refusal) (rest : Answer) → cond t (Refused r) rest ≡ Taken v → (t ≡ false) × (rest ≡ Taken v)
+  passed true r rest e = absurd (true≢false (sym (ap isTaken e)))
+  passed false r rest e = (refl, e)
+
+  tested-passed : (w : List ℕ) (rest : Answer) → tested isSound w rest ≡ Taken v → Ledger w × (rest ≡ Taken v)
+  tested-passed w rest e =
+      let long = passed _ _ _ e in
+      let sound = passed _ _ _ (long .1) in
+      (record { whole = eqb-true _ _ (not-false _ (long .0)); sound = isSound→Sound w (not-false _ (sound .0)) }, sound .1)
+
+  asked-passed : (f : Found) (rest : ℕ → Answer) → askedOf f rest ≡ Taken v → (f ≡ At (numberOf f)) × (rest (numberOf f) ≡ Taken v)
+  asked-passed (At i) rest e = (refl, e)
+  asked-passed Absent rest e = absurd (true≢false (sym (ap isTaken e)))
+
+-- neither of two tests passed
+neither : (a b : Bool) → (a || b) ≡ false → (a ≡ false) × (b ≡ false)
+neither true b e = absurd (true≢false e)
+neither false b e = (refl, e)
+
+-- no parent is named twice
+distinct-names : (parents : List ℕ) → hasTwice parents ≡ false → (a b : ℕ) → a < b → b < length parents → getD parents a 0 ≢ getD parents b 0
+unfolding hasTwice
+distinct-names parents e a b l h =
+    eqb-false _ _ (none→ (λ c. eqb (getD parents c 0) (getD parents b 0)) b (none→ (λ d. any (λ c. eqb (getD parents c 0) (getD parents d 0)) d) (length parents) e b h) a l)
+
+-- ---- open, book, poll and the readings, taken
+
+pub open-taken : (w : List ℕ) (s : Setting) → isTaken (openCall w s .answer) ≡ true → (length w ≡ size) × Good s × (openCall w s .words ≡ opened s)
+unfolding openCall
+open-taken w s e =
+    let taken = leaves-taken (openAnswer w s) w (opened s) e in
+    let long = passed _ _ _ (taken .1) in
+    let good = passed _ _ _ (long .1) in
+    (eqb-true _ _ (not-false _ (long .0)), isGood→Good s (not-false _ (good .0)), taken .2)
+
+pub book-taken : (w : List ℕ) (name slot : ℕ) (parents : List ℕ) → isTaken (bookCall w name slot parents .answer) ≡ true
+    → Ledger w × Bookable w name slot parents × (bookCall w name slot parents .words ≡ booked w name slot parents)
+unfolding bookCall
+book-taken w name slot parents e =
+    let taken = leaves-taken (bookAnswer isSound w name slot parents) w (booked w name slot parents) e in
+    let ledger = tested-passed w _ (taken .1) in
+    let new = passed _ _ _ (ledger .1) in
+    let inRange = passed _ _ _ (new .1) in
+    let slotIn = neither (eqb slot 0) (leb slots slot) (inRange .0) in
+    let some = passed _ _ _ (inRange .1) in
+    let someIn = neither (eqb (length parents) 0) (ltb mostParents (length parents)) (some .0) in
+    let known = passed (hasUnknown w parents) _ _ (some .1) in
+    let once = passed (hasTwice parents) _ _ (known .1) in
+    let room = passed (eqb (bookings w) mostBookings) _ _ (once .1) in (
+      ledger .0,
+      record {
+        fresh = absent-name w name (isFound-false _ (new .0));
+        slotLeast = omega (arith, eqb-false slot 0 (slotIn .0));
+        slotMost = leb-false slots slot (slotIn .1);
+        parentsLeast = omega (arith, eqb-false (length parents) 0 (someIn .0));
+        parentsMost = ltb-false mostParents (length parents) (someIn .1);
+        known = known .0;
+        distinct = distinct-names parents (once .0);
+        room = omega (arith, eqb-false (bookings w) mostBookings (room .0), ledger .0 .sound .bookingsMost);
+      },
+      taken .2,
+    )
+
+pub poll-taken : (w : List ℕ) (name : ℕ) (votes : List ℕ) → isTaken (pollCall w name votes .answer) ≡ true
+    → Ledger w × Pollable w (numberOf (lookUp w name)) × (pollCall w name votes .words ≡ polled w (numberOf (lookUp w name)) votes)
+unfolding pollCall
+poll-taken w name votes e =
+    let taken = leaves-taken (pollAnswer isSound w name votes) w (polled w (numberOf (lookUp w name)) votes) e in
+    let ledger = tested-passed w _ (taken .1) in
+    let found = asked-passed (lookUp w name) _ (ledger .1) in
+    let waiting = passed _ _ _ (found .1) in
+    (ledger .0, record { below = found-below w name _ (found .0); waiting = eqb-true _ _ (not-false _ (waiting .0)) }, taken .2)
+
+pub reading-taken : (f : ℕ → ℤ) (w : List ℕ) (name : ℕ) (v : ℤ) → readingCall f w name ≡ Taken v
+    → Ledger w × (lookUp w name ≡ At (numberOf (lookUp w name))) × (f (numberOf (lookUp w name)) ≡ v)
+reading-taken f w name v e =
+    let ledger = tested-passed w _ e in
+    let found = asked-passed (lookUp w name) _ (ledger .1) in
+    (ledger .0, found .0, ap value (found .1))

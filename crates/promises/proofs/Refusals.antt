@@ -1,0 +1,258 @@
+-- Each refusal comes exactly in its listed case: every test of a call tells its case, and one law reads a line of the list off a test.
+-- Rests on specs/Refusals.antt and on the laws that join tests to statements. Assumes nothing.
+use mathlib.Core.Path.{_≡_, refl, sym, ap, _∙_}
+use mathlib.Core.Bool.{Bool, true, false, not, _||_, cond, true≢false}
+use mathlib.Core.List.{List}
+use mathlib.Core.Logic.{_≢_, _⊎_, inl, inr, ⊎-elim}
+use Prim.Native.Nat.{ℕ, _<_, _≤_}
+use lib.IntN.{ℤ}
+use lib.ListN.{length, getD}
+use lib.Dec.{eqb, leb, ltb}
+use borrow.Author.Tests.{eqb-true, eq-eqb, leb-true, le-leb, ltb-true, lt-ltb, not-true, not-false}
+use Rattle.loops.specs.Search.{any}
+use Rattle.loops.proofs.Search.{any→, →any}
+use Rattle.rules.specs.declared.setting.Setting.{Setting}
+use Rattle.rules.specs.declared.answer.Found.{Found}
+use Rattle.rules.specs.declared.answer.Found.the-variants.{At, Absent}
+use Rattle.rules.specs.declared.answer.Refusal.{Refusal}
+use Rattle.rules.specs.declared.answer.Answer.{Answer}
+use Rattle.rules.specs.declared.answer.Answer.the-variants.{Taken, Refused}
+use Rattle.rules.specs.declared.vote.Vote.{Vote}
+use Rattle.rules.specs.Answers.{refusalNumber, number, value, leaves}
+use Rattle.rules.specs.Layout.{size, slots, mostParents, mostBookings, bookings, settingIn, stateOf}
+use Rattle.rules.specs.Setting.{Good, isGood}
+use Rattle.rules.specs.IsSound.{isSound}
+use Rattle.rules.specs.Sound.{Sound}
+use Rattle.rules.specs.Votes.{voteOf, isRefused, hasRefusedVote}
+use Rattle.rules.specs.Open.{opened}
+use Rattle.rules.specs.Book.{lookUp, isFound, isAbsent, numberOf, parentFound, hasUnknown, hasTwice, booked}
+use Rattle.rules.specs.Poll.{polled}
+use Rattle.rules.specs.Calls.{
+  openAnswer,
+  openCall,
+  tested,
+  bookAnswer,
+  bookCall,
+  askedOf,
+  pollAnswer,
+  pollCall,
+  readingCall,
+  queryCall,
+  acceptedCall,
+  leadCall,
+  confidenceCall,
+  sizeCall,
+}
+use Rattle.rules.proofs.Calls.{value-refused, open-refused, book-refused, poll-refused}
+use Rattle.rules.proofs.Good.{isGood→Good, Good→isGood}
+use Rattle.rules.proofs.Sound.{isSound→Sound, Sound→isSound}
+use Rattle.rules.proofs.Lookup.{found-below, found-name, absent-name, found-is}
+use Rattle.promises.specs.Run.{Open, Book, Poll, Query, Accepted, Lead, Confidence, Size, outcomeOf}
+use Rattle.promises.specs.Refusals.{
+  RefusedKeeps,
+  Booked,
+  UnknownParent,
+  ParentTwice,
+  NotWaiting,
+  BadVote,
+  refuses,
+  OpenListed,
+  BookListed,
+  PollListed,
+  ReadingListed,
+  RefusedListed,
+}
+
+-- ---- a refused call changes nothing
+
+pub refused-keeps : RefusedKeeps
+unfolding RefusedKeeps outcomeOf
+refused-keeps (Open s) w h = let kept = open-refused w s h in (kept .words, kept .value)
+refused-keeps (Book name slot parents) w h = let kept = book-refused w name slot parents h in (kept .words, kept .value)
+refused-keeps (Poll name votes) w h = let kept = poll-refused w name votes h in (kept .words, kept .value)
+refused-keeps (Query name) w h = (refl, value-refused (queryCall w name) h)
+refused-keeps (Accepted name) w h = (refl, value-refused (acceptedCall w name) h)
+refused-keeps (Lead name) w h = (refl, value-refused (leadCall w name) h)
+refused-keeps (Confidence name) w h = (refl, value-refused (confidenceCall w name) h)
+refused-keeps (Size name) w h = (refl, value-refused (sizeCall w name) h)
+
+-- ---- a test that tells whether a case applies
+
+record Tells (t : Bool) (applies : Type 0) : Type 0 where
+  passes : t ≡ true → applies
+  fails : t ≡ false → applies → ⊥
+
+-- by a law for each direction, and such a law from it
+tells-by : {t : Bool} {applies : Type 0} → (t ≡ true → applies) → (applies → t ≡ true) → Tells t applies
+tells-by to from = record { passes = to; fails = λ e a. true≢false (sym (from a) ∙ e) }
+
+told : (t : Bool) {applies : Type 0} → Tells t applies → applies → t ≡ true
+told true tells a = refl
+told false tells a = absurd (tells .fails refl a)
+
+not-tells : (t : Bool) {applies : Type 0} → Tells t applies → Tells (not t) (applies → ⊥)
+not-tells t tells = record { passes = λ e. tells .fails (not-true t e); fails = λ e d. d (tells .passes (not-false t e)) }
+
+either-tells : (s t : Bool) {one other : Type 0} → Tells s one → Tells t other → Tells (s || t) (one ⊎ other)
+either-tells true t tells also = record { passes = λ e. inl (tells .passes refl); fails = λ e. absurd (true≢false e) }
+either-tells false t tells also = record { passes = λ e. inr (also .passes e); fails = λ e. ⊎-elim (tells .fails refl) (also .fails e) }
+
+-- a case of some number below n, given what it says of the number
+any-tells : (p : ℕ → Bool) (n : ℕ) {applies : Type 0} → ((i : ℕ) → i < n → p i ≡ true → applies) → (applies → (i : ℕ) × (i < n) × (p i ≡ true))
+    → Tells (any p n) applies
+any-tells p n to from = tells-by
+    (λ e. let found = any→ p n e in to (found .0) (found .1) (found .2))
+    (λ a. let found = from a in →any p n (found .0) (found .1) (found .2))
+
+equal-tells : (a b : ℕ) → Tells (eqb a b) (a ≡ b)
+equal-tells a b = tells-by (eqb-true a b) (eq-eqb a b)
+
+most-tells : (a b : ℕ) → Tells (leb a b) (a ≤ b)
+most-tells a b = tells-by (leb-true a b) (le-leb a b)
+
+less-tells : (a b : ℕ) → Tells (ltb a b) (a < b)
+less-tells a b = tells-by (ltb-true a b) (lt-ltb a b)
+
+-- ---- the cases, in the order of their numbers
+
+-- 1 and 12
+differs-tells : (a b : ℕ) → Tells (not (eqb a b)) (a ≢ b)
+differs-tells a b = not-tells (eqb a b) (equal-tells a b)
+
+-- 2
+unsound-tells : (w : List ℕ) → Tells (not (isSound w)) (Sound w → ⊥)
+unsound-tells w = not-tells (isSound w) (tells-by (isSound→Sound w) (Sound→isSound w))
+
+-- 3
+bad-tells : (s : Setting) → Tells (not (isGood s)) (Good s → ⊥)
+bad-tells s = not-tells (isGood s) (tells-by (isGood→Good s) (Good→isGood s))
+
+-- 4: what is looked up is found exactly if some booking has the name
+found-tells : (w : List ℕ) (name : ℕ) → Tells (isFound (lookUp w name)) (Booked w name)
+found-tells w name = go (lookUp w name) refl
+  where
+    go : (f : Found) → lookUp w name ≡ f → Tells (isFound f) (Booked w name)
+    go (At i) e = tells-by (λ t. record { booking = i; below = found-below w name i e; named = found-name w name i e }) (λ b. refl)
+    go Absent e = tells-by (λ t. absurd (true≢false (sym t))) (λ b. absurd (absent-name w name e (b .booking) (b .below) (b .named)))
+
+-- 7
+absent-tells : (w : List ℕ) (name : ℕ) → Tells (isAbsent (lookUp w name)) (Booked w name → ⊥)
+absent-tells w name = go (lookUp w name) (found-tells w name)
+  where
+    go : (f : Found) → Tells (isFound f) (Booked w name) → Tells (isAbsent f) (Booked w name → ⊥)
+    go (At i) tells = not-tells true tells
+    go Absent tells = not-tells false tells
+
+unknown-tells : (w parents : List ℕ) → Tells (hasUnknown w parents) (UnknownParent w parents)
+unfolding hasUnknown
+unknown-tells w parents =
+    any-tells (λ a. isAbsent (parentFound w parents a)) (length parents)
+    (λ a h e. record { place = a; within = h; unknown = absent-tells w (getD parents a 0) .passes e })
+    (λ u. (u .place, u .within, told _ (absent-tells w (getD parents (u .place) 0)) (u .unknown)))
+
+-- 8
+twice-tells : (parents : List ℕ) → Tells (hasTwice parents) (ParentTwice parents)
+unfolding hasTwice
+twice-tells parents =
+    any-tells (λ b. any (λ a. eqb (getD parents a 0) (getD parents b 0)) b) (length parents)
+    (λ b h e.
+    let found = any→ (λ a. eqb (getD parents a 0) (getD parents b 0)) b e in
+    record { earlier = found .0; later = b; ordered = found .1; within = h; same = eqb-true _ _ (found .2) })
+    (λ p. (p .later, p .within, →any (λ a. eqb (getD parents a 0) (getD parents (p .later) 0)) (p .later) (p .earlier) (p .ordered) (eq-eqb _ _ (p .same))))
+
+-- 11: on a sound workspace the booking found is the one with the name
+waiting-tells : (w : List ℕ) → Sound w → (name i : ℕ) → lookUp w name ≡ At i → Tells (not (eqb (stateOf w i) 0)) (NotWaiting w name)
+waiting-tells w sound name i e = tells-by
+    (λ t. record { booking = i; below = found-below w name i e; named = found-name w name i e; state = differs-tells _ _ .passes t })
+    (λ n.
+    let same : n .booking ≡ i = cc (found-is w sound (n .booking) (n .below)) in
+    told _ (differs-tells (stateOf w i) 0) (λ z. n .state (ap (stateOf w) same ∙ z)))
+
+-- 13
+voteOf-refused : (byte : ℕ) → isRefused (voteOf byte) ≡ not (eqb byte 1 || eqb byte 255 || eqb byte 0)
+unfolding voteOf
+voteOf-refused byte = go (eqb byte 1) (eqb byte 255) (eqb byte 0)
+  where
+    go : (one minusOne silent : Bool) → isRefused (cond one Vote.Yes (cond minusOne Vote.No (cond silent Vote.Silent Vote.Refused))) ≡ not (one || minusOne || silent)
+    go true minusOne silent = refl
+    go false true silent = refl
+    go false false true = refl
+    go false false false = refl
+
+byte-tells : (byte : ℕ) → Tells (isRefused (voteOf byte)) (((byte ≡ 1) ⊎ (byte ≡ 255)) ⊎ (byte ≡ 0) → ⊥)
+byte-tells byte =
+    rw (voteOf-refused byte)
+    (not-tells _ (either-tells _ _ (either-tells _ _ (equal-tells byte 1) (equal-tells byte 255)) (equal-tells byte 0)))
+
+vote-tells : (votes : List ℕ) → Tells (hasRefusedVote votes) (BadVote votes)
+vote-tells votes =
+    any-tells (λ a. isRefused (voteOf (getD votes a 0))) (length votes)
+    (λ a h e.
+    let bad = byte-tells (getD votes a 0) .passes e in
+    record { place = a; within = h; silent = λ z. bad (inr z); yes = λ z. bad (inl (inl z)); minusOne = λ z. bad (inl (inr z)) })
+    (λ b. (b .place, b .within, told _ (byte-tells (getD votes (b .place) 0)) (⊎-elim (⊎-elim (b .yes) (b .minusOne)) (b .silent))))
+
+-- ---- a line of the list, off a test: the number is the refusal's where the test passes, and else the rest's
+
+module _ {n : ℕ} {later : Type 0} where
+  refused-first : (r : Refusal) (t : Bool) (rest : Answer) {applies : Type 0} → n ≡ number (cond t (Refused r) rest) → Tells t applies
+      → (t ≡ false → n ≡ number rest → later) → refuses (refusalNumber r) applies (λ k. later) n
+  refused-first r true rest e tells onward = inl (tells .passes refl, e)
+  refused-first r false rest e tells onward = inr (tells .fails refl, onward refl e)
+
+  -- 10, and what follows it knows the number found
+  asked-first : (f : Found) (rest : ℕ → Answer) {known : Type 0} → n ≡ number (askedOf f rest) → Tells (isFound f) known
+      → ((i : ℕ) → f ≡ At i → n ≡ number (rest i) → later) → refuses (refusalNumber Refusal.UnknownName) (known → ⊥) (λ k. later) n
+  asked-first (At i) rest e tells onward = inr (λ d. d (tells .passes refl), onward i refl e)
+  asked-first Absent rest e tells onward = inl (tells .fails refl, e)
+
+-- 1 and 2, and what follows them knows that the workspace is sound
+tested-first : {n : ℕ} {later : Type 0} (w : List ℕ) (rest : Answer) → n ≡ number (tested isSound w rest) → (Sound w → n ≡ number rest → later)
+    → refuses (refusalNumber Refusal.WrongLength) (length w ≢ size) (refuses (refusalNumber Refusal.NotSound) (Sound w → ⊥) (λ k. later)) n
+tested-first w rest e onward =
+    refused-first Refusal.WrongLength _ _ e (differs-tells (length w) size) (λ t e.
+    refused-first Refusal.NotSound _ _ e (unsound-tells w) (λ t. onward (isSound→Sound w (not-false _ t))))
+
+-- ---- the lists
+
+leaves-answer : (a : Answer) (before after : List ℕ) → leaves a before after .answer ≡ a
+leaves-answer (Taken v) before after = refl
+leaves-answer (Refused r) before after = refl
+
+open-listed : (w : List ℕ) (s : Setting) → OpenListed w s (number (openCall w s .answer))
+unfolding openCall
+open-listed w s =
+    refused-first Refusal.WrongLength _ _ (ap number (leaves-answer (openAnswer w s) w (opened s))) (differs-tells (length w) size) (λ t e.
+    refused-first Refusal.BadSetting _ _ e (bad-tells s) (λ t e.
+    e))
+
+book-listed : (w : List ℕ) (name slot : ℕ) (parents : List ℕ) → BookListed w name slot parents (number (bookCall w name slot parents .answer))
+unfolding bookCall
+book-listed w name slot parents =
+    tested-first w _ (ap number (leaves-answer (bookAnswer isSound w name slot parents) w (booked w name slot parents))) (λ sound e.
+    refused-first Refusal.NameTaken _ _ e (found-tells w name) (λ t e.
+    refused-first Refusal.BadSlot _ _ e (either-tells _ _ (equal-tells slot 0) (most-tells slots slot)) (λ t e.
+    refused-first Refusal.BadParents _ _ e (either-tells _ _ (equal-tells (length parents) 0) (less-tells mostParents (length parents))) (λ t e.
+    refused-first Refusal.UnknownParent _ _ e (unknown-tells w parents) (λ t e.
+    refused-first Refusal.ParentTwice _ _ e (twice-tells parents) (λ t e.
+    refused-first Refusal.Full _ _ e (equal-tells (bookings w) mostBookings) (λ t e.
+    e)))))))
+
+poll-listed : (w : List ℕ) (name : ℕ) (votes : List ℕ) → PollListed w name votes (number (pollCall w name votes .answer))
+unfolding pollCall
+poll-listed w name votes =
+    tested-first w _ (ap number (leaves-answer (pollAnswer isSound w name votes) w (polled w (numberOf (lookUp w name)) votes))) (λ sound e.
+    asked-first (lookUp w name) _ e (found-tells w name) (λ i found e.
+    refused-first Refusal.NotWaiting _ _ e (waiting-tells w sound name i found) (λ t e.
+    refused-first Refusal.WrongVotes _ _ e (differs-tells (length votes) (settingIn w .k)) (λ t e.
+    refused-first Refusal.BadVote _ _ e (vote-tells votes) (λ t e.
+    e)))))
+
+reading-listed : (f : ℕ → ℤ) (w : List ℕ) (name : ℕ) → ReadingListed w name (number (readingCall f w name))
+reading-listed f w name =
+    tested-first w _ refl (λ sound e.
+    asked-first (lookUp w name) _ e (found-tells w name) (λ i found e.
+    e))
+
+pub refused-listed : RefusedListed
+refused-listed = record { opening = open-listed; booking = book-listed; polling = poll-listed; reading = reading-listed }
