@@ -6,7 +6,7 @@ use mathlib.Core.List.{List}
 use lib.ListN.{length, getD}
 use native.Mathlib.Omega.{arith}
 use borrow.Author.Needs.{needs}
-use Rattle.loops.specs.Total.{bit, count}
+use Rattle.loops.specs.Total.{count}
 use Rattle.loops.proofs.Total.{total-zero, total-more, count-le, bit-le}
 use Rattle.rules.specs.Votes.{voteOf, isYes}
 use Rattle.polling.proofs.votes.count_yes.Statement.{statement}

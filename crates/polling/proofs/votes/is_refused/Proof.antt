@@ -1,45 +1,34 @@
+-- Each arm knows the vote.
 use borrow.Author.Needs.{needs}
 use Rattle.polling.proofs.votes.is_refused.Statement.{statement}
 use Rattle.polling.proofs.votes.is_refused.Tie as tie
-use Rattle.polling.proofs.votes.is_refused.Reads as reads
-use Rattle.polling.proofs.votes.is_refused.Lts as lts
-use Rattle.rules.proofs.vote.read_vote.Reads as read-vote-reads
 
--- src/votes.rt:33:11
 read-vote-requires : tie.Need-read-vote-requires
 read-vote-requires c κs = search needs
 
--- src/votes.rt:34:22
 enum-told : tie.Need-enum-told
 enum-told c = search needs
 
--- src/votes.rt:35:21
 enum-told-2 : tie.Need-enum-told-2
 enum-told-2 c = search needs
 
--- src/votes.rt:36:25
 enum-told-3 : tie.Need-enum-told-3
 enum-told-3 c = search needs
 
--- src/votes.rt:37:26
 enum-told-4 : tie.Need-enum-told-4
 enum-told-4 c = search needs
 
--- src/votes.rt:30:1
-returns : tie.Need-returns
-returns c = simp (← c .before .before .read-vote .ensures, c .enum-told .given .1)
+yes-vote : tie.Need-returns
+yes-vote c = simp (← c .before .before .read-vote .ensures, c .enum-told .given .1)
 
--- src/votes.rt:30:1
-returns-2 : tie.Need-returns-2
-returns-2 c = simp (← c .before .before .read-vote .ensures, c .enum-told2 .given .1)
+no-vote : tie.Need-returns-2
+no-vote c = simp (← c .before .before .read-vote .ensures, c .enum-told2 .given .1)
 
--- src/votes.rt:30:1
-returns-3 : tie.Need-returns-3
-returns-3 c = simp (← c .before .before .read-vote .ensures, c .enum-told3 .given .1)
+silent-vote : tie.Need-returns-3
+silent-vote c = simp (← c .before .before .read-vote .ensures, c .enum-told3 .given .1)
 
--- src/votes.rt:30:1
-returns-4 : tie.Need-returns-4
-returns-4 c = simp (← c .before .before .read-vote .ensures, c .enum-told4 .given .1)
+refused-vote : tie.Need-returns-4
+refused-vote c = simp (← c .before .before .read-vote .ensures, c .enum-told4 .given .1)
 
 pub is-refused-spec : {M : Type 1} → statement M
 is-refused-spec =
@@ -50,7 +39,7 @@ is-refused-spec =
     enum-told-2
     enum-told-3
     enum-told-4
-    returns
-    returns-2
-    returns-3
-    returns-4)
+    yes-vote
+    no-vote
+    silent-vote
+    refused-vote)
