@@ -1,7 +1,7 @@
--- Each arm knows the vote.
+-- Each arm knows the vote, and a yes alone is 1.
 use borrow.Author.Needs.{needs}
-use Rattle.polling.proofs.votes.is_refused.Statement.{statement}
-use Rattle.polling.proofs.votes.is_refused.Tie as tie
+use Rattle.votes.proofs.yes_bit.Statement.{statement}
+use Rattle.votes.proofs.yes_bit.Tie as tie
 
 read-vote-requires : tie.Need-read-vote-requires
 read-vote-requires c κs = search needs
@@ -30,8 +30,8 @@ silent-vote c = simp (← c .before .before .read-vote .ensures, c .enum-told3 .
 refused-vote : tie.Need-returns-4
 refused-vote c = simp (← c .before .before .read-vote .ensures, c .enum-told4 .given .1)
 
-pub is-refused-spec : {M : Type 1} → statement M
-is-refused-spec =
+pub yes-bit-spec : {M : Type 1} → statement M
+yes-bit-spec =
     tie.close
     (tie.spec
     read-vote-requires
