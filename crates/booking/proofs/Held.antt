@@ -1,5 +1,5 @@
 -- A slot of a ledger holds no more bookings than there are, so one more can be counted; and a record that is written changes no entry.
-use mathlib.Core.Path.{_≡_, sym, _∙_}
+use mathlib.Core.Path.{_≡_}
 use mathlib.Core.List.{List}
 use Prim.Native.Nat.{ℕ, _<_, _≤_}
 use native.Mathlib.Decide.{ℕ-discrete}
@@ -8,7 +8,7 @@ use lib.ListN.{length}
 use lib.Seq.{sets}
 use lib.Dec.{eqb}
 use Rattle.loops.proofs.Total.{count-le}
-use Rattle.rules.specs.Layout.{mostBookings, slots, recordWords, none, recordAt, slotAt, heldField, bookings, slotOf, heldIn}
+use Rattle.rules.specs.Layout.{mostBookings, slots, recordWords, recordAt, slotAt, heldField, bookings, slotOf, heldIn}
 use Rattle.rules.specs.IsSound.{bookingsOf}
 use Rattle.rules.specs.Sound.{Ledger}
 use Rattle.booking.proofs.Rows.{getD-sets-after}

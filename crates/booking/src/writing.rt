@@ -10,8 +10,12 @@ ghost use Rattle.rules.specs.Sound.{Ledger};
 ghost use Rattle.booking.specs.Numbered.{newRow, bookedWith};
 
 // The record of a booking: the name's four parts, highest first, the slot, the parents, state 0, confidence 0 and no ordinal.
-fn new_row(name: u64, slot: u16, p: &[u16; 4]) -> [u16; layout::RECORD_WORDS]
-    ensures { λ r. ⌜ r ≡ newRow name slot (now (p .entry)) ⌝ }
+fn new_row(
+    name: u64,
+    slot: u16,
+    parents: &[u16; layout::MOST_PARENTS],
+) -> [u16; layout::RECORD_WORDS]
+    ensures { λ r. ⌜ r ≡ newRow name slot (now (parents .entry)) ⌝ }
 {
     [
         (name >> 48) as u16,
@@ -19,10 +23,10 @@ fn new_row(name: u64, slot: u16, p: &[u16; 4]) -> [u16; layout::RECORD_WORDS]
         ((name >> 16) % 65536) as u16,
         (name % 65536) as u16,
         slot,
-        p[0],
-        p[1],
-        p[2],
-        p[3],
+        parents[0],
+        parents[1],
+        parents[2],
+        parents[3],
         0,
         0,
         0,
@@ -63,12 +67,12 @@ fn enter_slot(w: &mut [u16], s: usize, i: u16)
     }
 }
 
-pub fn write_booking(w: &mut [u16], name: u64, slot: u16, p: &[u16; 4])
+pub fn write_booking(w: &mut [u16], name: u64, slot: u16, parents: &[u16; layout::MOST_PARENTS])
     requires { ⌜ Ledger (now w) × (bookings (now w) < mostBookings) × (slot < slots) ⌝ }
-    ensures { λ _. ⌜ now (w .exit) ≡ bookedWith (now (w .entry)) name slot (now (p .entry)) ⌝ }
+    ensures { λ _. ⌜ now (w .exit) ≡ bookedWith (now (w .entry)) name slot (now (parents .entry)) ⌝ }
 {
     let n = words::head(w, layout::BOOKINGS);
-    let row = new_row(name, slot, p);
+    let row = new_row(name, slot, parents);
     put_record(w, words::wide(n), &row);
     enter_slot(w, words::wide(slot), n);
     words::set_head(w, layout::BOOKINGS, n + 1);

@@ -8,7 +8,7 @@ ghost use Rattle.rules.specs.Layout.{size, headerWords, recordWords, slotWords}
 ghost use Rattle.rules.specs.Open.{openHeader, openRecord, openEntry, openWord, opened};
 
 // Name 0, slot 0, no parents, polled without a chit.
-const GENESIS: [u16; 12] = [
+const GENESIS: [u16; layout::RECORD_WORDS] = [
     0,
     0,
     0,
@@ -24,16 +24,16 @@ const GENESIS: [u16; 12] = [
 ];
 
 // Slot 0 holds the genesis, which is preferred and last there.
-const FIRST_ENTRY: [u16; 4] = [0, 0, 0, 1];
+const FIRST_ENTRY: [u16; layout::SLOT_WORDS] = [0, 0, 0, 1];
 
-const EMPTY_ENTRY: [u16; 4] = [layout::NONE, layout::NONE, 0, 0];
+const EMPTY_ENTRY: [u16; layout::SLOT_WORDS] = [layout::NONE, layout::NONE, 0, 0];
 
 // n = 1, the setting, p = 0.
 fn header_word(s: Setting, f: usize) -> u16
     requires { ⌜ f < headerWords ⌝ }
     ensures { λ r. ⌜ r ≡ getD (openHeader s) f 0 ⌝ }
 {
-    let header: [u16; 8] = [1, s.k, s.a, s.beta1, s.beta2, 0, 0, 0];
+    let header: [u16; layout::HEADER_WORDS] = [1, s.k, s.a, s.beta1, s.beta2, 0, 0, 0];
     header[f]
 }
 

@@ -1,7 +1,7 @@
 -- A ledger has what the writes of a poll lean on.
-use mathlib.Core.Path.{_≡_, refl, sym, ap, _∙_}
+use mathlib.Core.Path.{_≡_, refl, _∙_}
 use mathlib.Core.List.{List}
-use mathlib.Core.Logic.{_≢_, ⊎-elim}
+use mathlib.Core.Logic.{_≢_}
 use Prim.Native.Nat.{ℕ, zero, suc, _+_, _<_, _≤_}
 use native.Mathlib.Omega.{arith}
 use lib.ListN.{length, getD, length-set}
@@ -10,10 +10,8 @@ use lib.Dec.{eqb}
 use borrow.Author.Tests.{eq-eqb}
 use Rattle.loops.proofs.Total.{count-le, count-some}
 use Rattle.rules.specs.Layout.{
-  size,
   mostBookings,
   slots,
-  slotsStart,
   recordAt,
   slotAt,
   pollsField,
@@ -27,9 +25,6 @@ use Rattle.rules.specs.Layout.{
   polls,
   slotOf,
   stateOf,
-  confidenceOf,
-  preferredIn,
-  counterIn,
   withHeader,
   withField,
 }

@@ -1,19 +1,16 @@
 -- A turn of the settling moves its slot's entry alone, and leaves it fit for another turn. So from a ledger on every turn of a
 -- successful poll has its indices in range and its sums in bounds.
-use mathlib.Core.Path.{_≡_, refl, sym, ap, _∙_}
+use mathlib.Core.Path.{_≡_, refl, _∙_}
 use mathlib.Core.List.{List}
 use mathlib.Core.Logic.{_≢_}
-use Prim.Native.Nat.{ℕ, zero, suc, _+_, _*_, _<_, _≤_}
+use Prim.Native.Nat.{ℕ, suc, _+_, _<_, _≤_}
 use native.Mathlib.Omega.{arith}
-use lib.ListN.{length, getD, set, length-set}
+use lib.ListN.{length, getD, length-set}
 use lib.Seq.{getD-set-other}
 use lib.Dec.{eqb, ltb}
 use Rattle.loops.proofs.Turns.{upTo-carried}
 use Rattle.rules.specs.Layout.{
-  size,
   mostBookings,
-  slots,
-  none,
   slotAt,
   recordAt,
   slotField,

@@ -1,5 +1,4 @@
-// The writes of a poll: votes are counted, the poll is noted, members are raised and then settled. Names and refusals are judged above.
+// The writes of a poll: it is noted, the members of the ancestry are raised, and then each is settled. Refusals are judged above.
 pub mod raising;
 pub mod settling;
-pub mod votes;
 pub mod writing;

@@ -19,22 +19,22 @@ pub fn note(w: &mut [u16], i: usize, state: u16)
 }
 
 // One confidence more for j if it is a member.
-fn raise_one(w: &mut [u16], m: &[u8], j: usize)
-    requires { ⌜ (length (now w) ≡ size) × (length (now m) ≡ mostBookings) × (j < mostBookings) × (confidenceOf (now w) j ≤ mostBookings) ⌝ }
-    ensures { λ _. ⌜ now (w .exit) ≡ raiseOne (now (m .entry)) j (now (w .entry)) ⌝ }
+fn raise_one(w: &mut [u16], marks: &[u8], j: usize)
+    requires { ⌜ (length (now w) ≡ size) × (length (now marks) ≡ mostBookings) × (j < mostBookings) × (confidenceOf (now w) j ≤ mostBookings) ⌝ }
+    ensures { λ _. ⌜ now (w .exit) ≡ raiseOne (now (marks .entry)) j (now (w .entry)) ⌝ }
 {
-    if m[j] == 1 {
+    if marks[j] == 1 {
         let confidence = words::get(w, j, layout::CONFIDENCE);
         words::set_field(w, j, layout::CONFIDENCE, confidence + 1);
     }
 }
 
 // Each member below n, once: the marks know no paths.
-pub fn raise(w: &mut [u16], m: &[u8], n: usize)
-    requires { ⌜ Raising (now w) n × (length (now m) ≡ mostBookings) ⌝ }
-    ensures { λ _. ⌜ now (w .exit) ≡ raised (now (m .entry)) n (now (w .entry)) ⌝ }
+pub fn raise(w: &mut [u16], marks: &[u8], n: usize)
+    requires { ⌜ Raising (now w) n × (length (now marks) ≡ mostBookings) ⌝ }
+    ensures { λ _. ⌜ now (w .exit) ≡ raised (now (marks .entry)) n (now (w .entry)) ⌝ }
 {
     for j in 0..n {
-        raise_one(w, m, j);
+        raise_one(w, marks, j);
     }
 }

@@ -36,11 +36,11 @@ fn follow_one(w: &mut [u16], s: usize, j: usize)
 }
 
 // Both for j, in this order, if it is a member.
-fn settle_one(w: &mut [u16], m: &[u8], j: usize)
-    requires { ⌜ Settleable (now w) (slotOf (now w) j) × (length (now m) ≡ mostBookings) × (j < mostBookings) ⌝ }
-    ensures { λ _. ⌜ now (w .exit) ≡ settleOne (now (m .entry)) j (now (w .entry)) ⌝ }
+fn settle_one(w: &mut [u16], marks: &[u8], j: usize)
+    requires { ⌜ Settleable (now w) (slotOf (now w) j) × (length (now marks) ≡ mostBookings) × (j < mostBookings) ⌝ }
+    ensures { λ _. ⌜ now (w .exit) ≡ settleOne (now (marks .entry)) j (now (w .entry)) ⌝ }
 {
-    if m[j] == 1 {
+    if marks[j] == 1 {
         let s = words::wide(words::get(w, j, layout::SLOT));
         prefer_one(w, s, j);
         follow_one(w, s, j);
@@ -48,11 +48,11 @@ fn settle_one(w: &mut [u16], m: &[u8], j: usize)
 }
 
 // Each member below n in rising number.
-pub fn settle(w: &mut [u16], m: &[u8], n: usize)
-    requires { ⌜ Settling (now w) n 0 × (length (now m) ≡ mostBookings) ⌝ }
-    ensures { λ _. ⌜ now (w .exit) ≡ settled (now (m .entry)) n (now (w .entry)) ⌝ }
+pub fn settle(w: &mut [u16], marks: &[u8], n: usize)
+    requires { ⌜ Settling (now w) n 0 × (length (now marks) ≡ mostBookings) ⌝ }
+    ensures { λ _. ⌜ now (w .exit) ≡ settled (now (marks .entry)) n (now (w .entry)) ⌝ }
 {
     for j in 0..n {
-        settle_one(w, m, j);
+        settle_one(w, marks, j);
     }
 }

@@ -24,12 +24,12 @@ pub fn write_failure(w: &mut [u16], i: usize)
 }
 
 // The state becomes 2; every member of the marks is raised, and only then each is settled.
-pub fn write_success(w: &mut [u16], m: &[u8], i: usize)
-    requires { ⌜ Ledger (now w) × (i < bookings (now w)) × (length (now m) ≡ mostBookings) ⌝ }
-    ensures { λ _. ⌜ now (w .exit) ≡ succeededWith (now (m .entry)) (now (w .entry)) i ⌝ }
+pub fn write_success(w: &mut [u16], marks: &[u8], i: usize)
+    requires { ⌜ Ledger (now w) × (i < bookings (now w)) × (length (now marks) ≡ mostBookings) ⌝ }
+    ensures { λ _. ⌜ now (w .exit) ≡ succeededWith (now (marks .entry)) (now (w .entry)) i ⌝ }
 {
     let n = words::wide(words::head(w, layout::BOOKINGS));
     raising::note(w, i, CHIT);
-    raising::raise(w, m, n);
-    settling::settle(w, m, n);
+    raising::raise(w, marks, n);
+    settling::settle(w, marks, n);
 }

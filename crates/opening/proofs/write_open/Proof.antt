@@ -11,9 +11,6 @@ use Rattle.rules.specs.Layout.{size}
 use Rattle.rules.specs.Open.{openWord, opened}
 use Rattle.opening.proofs.write_open.Statement.{statement}
 use Rattle.opening.proofs.write_open.Tie as tie
-use Rattle.opening.proofs.write_open.Reads as reads
-use Rattle.opening.proofs.write_open.Lts as lts
-use Rattle.opening.proofs.open_word.Reads as open-word-reads
 
 abbrev Inv-loop : tie.InvT-loop
 Inv-loop w₀ s j₀ w j = (j ≤ size) × (length w ≡ size) × (w ≡ from (openWord s) 0 j ++ drop j w₀)
@@ -21,31 +18,24 @@ Inv-loop w₀ s j₀ w j = (j ≤ size) × (length w ≡ size) × (w ≡ from (o
 abbrev μ-loop : tie.MeasureT-loop
 μ-loop w₀ s j₀ w j = size - j
 
--- src/lib.rt:61:5
 loop-holds : tie.Need-loop-holds Inv-loop μ-loop
 loop-holds c = (search needs, search needs, fill-start (openWord (c .before .args .s)) (c .before .args .w .now))
 
--- src/lib.rt:62:16
 open-word-requires : tie.Need-open-word-requires Inv-loop μ-loop
 open-word-requires c κs = search needs
 
--- src/lib.rt:62:9
 mul-w : tie.Need-mul-w Inv-loop μ-loop
 mul-w c = omega arith
 
--- src/lib.rt:62:9
 slice-write-w : tie.Need-slice-write-w Inv-loop μ-loop
 slice-write-w c = omega arith
 
--- src/lib.rt:61:9
 add-j : tie.Need-add-j Inv-loop μ-loop
 add-j c = omega arith
 
--- src/lib.rt:61:5
 loop-less : tie.Need-loop-less Inv-loop μ-loop
 loop-less c = omega arith
 
--- src/lib.rt:61:5
 loop-again : tie.Need-loop-again Inv-loop μ-loop
 loop-again c = (
   omega arith,
@@ -53,11 +43,9 @@ loop-again c = (
   rw (c .before .before .loop .inv .2, c .open-word .ensures) (fill-more _ _ _ (omega arith)),
 )
 
--- src/lib.rt:57:1
 same-length : tie.Need-same-length Inv-loop μ-loop
 same-length c = omega arith
 
--- src/lib.rt:57:1
 returns : tie.Need-returns Inv-loop μ-loop
 unfolding opened
 returns c =

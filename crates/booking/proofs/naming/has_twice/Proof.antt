@@ -13,9 +13,6 @@ use Rattle.loops.proofs.Search.{Searched, search-start, search-miss, search-ove
 use Rattle.rules.specs.Book.{hasTwice}
 use Rattle.booking.proofs.naming.has_twice.Statement.{statement}
 use Rattle.booking.proofs.naming.has_twice.Tie as tie
-use Rattle.booking.proofs.naming.has_twice.Reads as reads
-use Rattle.booking.proofs.naming.has_twice.Lts as lts
-use Rattle.booking.proofs.naming.is_earlier.Reads as is-earlier-reads
 
 abbrev isEarlier : List ℕ → ℕ → Bool
 isEarlier parents a = any (λ b. eqb (getD parents b 0) (getD parents a 0)) a
@@ -26,40 +23,33 @@ Inv-loop parents a₀ a-end a = (a ≤ length parents) × Searched (isEarlier pa
 abbrev μ-loop : tie.MeasureT-loop
 μ-loop parents a₀ a-end a = length parents - a
 
--- src/naming.rt:25:5
 loop-holds : tie.Need-loop-holds Inv-loop μ-loop
 loop-holds c = (search needs, search-start _ _)
 
--- src/naming.rt:26:12
 is-earlier-requires : tie.Need-is-earlier-requires Inv-loop μ-loop
 is-earlier-requires c κs = omega arith
 
--- src/naming.rt:27:13
-returns : tie.Need-returns Inv-loop μ-loop
+twice : tie.Need-returns Inv-loop μ-loop
 unfolding hasTwice
-returns c =
+twice c =
     let L = c .before .before .before in
     let parents = L .before .before .args .parents .now in
     sym (→any (isEarlier parents) (length parents) (L .loop .a) (omega arith) (sym (c .before .is-earlier .ensures) ∙ c .if1 .taken))
 
--- src/naming.rt:25:9
 add-a : tie.Need-add-a Inv-loop μ-loop
 add-a c = omega arith
 
--- src/naming.rt:25:5
 loop-less : tie.Need-loop-less Inv-loop μ-loop
 loop-less c = omega arith
 
--- src/naming.rt:25:5
 loop-again : tie.Need-loop-again Inv-loop μ-loop
 loop-again c =
     let L = c .before .before .before in
     (omega arith, search-miss _ _ _ (L .loop .inv .1) (omega arith) (sym (c .before .is-earlier .ensures) ∙ c .if1 .left))
 
--- src/naming.rt:22:1
-returns-2 : tie.Need-returns-2 Inv-loop μ-loop
+none-twice : tie.Need-returns-2 Inv-loop μ-loop
 unfolding hasTwice
-returns-2 c =
+none-twice c =
     let parents = c .before .before .before .args .parents .now in
     let e : first (isEarlier parents) (length parents) ≡ c .before .loop .a = search-over _ _ _ (c .before .loop .inv .1) (omega arith) in
     sym (le-ltb (first (isEarlier parents) (length parents)) (length parents) (omega arith))
@@ -72,8 +62,8 @@ has-twice-spec =
     μ-loop
     loop-holds
     is-earlier-requires
-    returns
+    twice
     add-a
     loop-less
     loop-again
-    returns-2)
+    none-twice)

@@ -12,8 +12,6 @@ use Rattle.loops.specs.Search.{first}
 use Rattle.loops.proofs.Search.{Searched, search-start, search-miss, search-over, →any}
 use Rattle.booking.proofs.naming.is_earlier.Statement.{statement}
 use Rattle.booking.proofs.naming.is_earlier.Tie as tie
-use Rattle.booking.proofs.naming.is_earlier.Reads as reads
-use Rattle.booking.proofs.naming.is_earlier.Lts as lts
 
 abbrev sameAs : List ℕ → ℕ → ℕ → Bool
 sameAs parents a b = eqb (getD parents b 0) (getD parents a 0)
@@ -24,49 +22,39 @@ Inv-loop parents a b₀ b = (b ≤ a) × Searched (sameAs parents a) a b
 abbrev μ-loop : tie.MeasureT-loop
 μ-loop parents a b₀ b = a - b
 
--- src/naming.rt:14:5
 loop-holds : tie.Need-loop-holds Inv-loop μ-loop
 loop-holds c = (search needs, search-start _ _)
 
--- src/naming.rt:15:12
 mul-if1 : tie.Need-mul-if1 Inv-loop μ-loop
 mul-if1 c = omega arith
 
--- src/naming.rt:15:12
 shared-slice-read-if1 : tie.Need-shared-slice-read-if1 Inv-loop μ-loop
 shared-slice-read-if1 c = omega arith
 
--- src/naming.rt:15:26
 mul-if1-2 : tie.Need-mul-if1-2 Inv-loop μ-loop
 mul-if1-2 c = omega arith
 
--- src/naming.rt:15:26
 shared-slice-read-if1-2 : tie.Need-shared-slice-read-if1-2 Inv-loop μ-loop
 shared-slice-read-if1-2 c = omega arith
 
--- src/naming.rt:16:13
-returns : tie.Need-returns Inv-loop μ-loop
-returns c =
+found : tie.Need-returns Inv-loop μ-loop
+found c =
     let L = c .before .before .before .before in
     sym (→any (sameAs (L .before .args .parents .now) (L .before .args .a)) (L .before .args .a) (L .loop .b) (omega arith) (eq-eqb _ _ (c .if1 .taken)))
 
--- src/naming.rt:14:9
 add-b : tie.Need-add-b Inv-loop μ-loop
 add-b c = omega arith
 
--- src/naming.rt:14:5
 loop-less : tie.Need-loop-less Inv-loop μ-loop
 loop-less c = omega arith
 
--- src/naming.rt:14:5
 loop-again : tie.Need-loop-again Inv-loop μ-loop
 loop-again c =
     let L = c .before .before .before .before in
     (omega arith, search-miss _ _ _ (L .loop .inv .1) (omega arith) (ne-eqb _ _ (c .if1 .left)))
 
--- src/naming.rt:10:1
-returns-2 : tie.Need-returns-2 Inv-loop μ-loop
-returns-2 c =
+none-found : tie.Need-returns-2 Inv-loop μ-loop
+none-found c =
     let p = sameAs (c .before .before .args .parents .now) (c .before .before .args .a) in
     let n = c .before .before .args .a in
     let e : first p n ≡ c .before .loop .b = search-over _ _ _ (c .before .loop .inv .1) (omega arith) in
@@ -83,8 +71,8 @@ is-earlier-spec =
     shared-slice-read-if1
     mul-if1-2
     shared-slice-read-if1-2
-    returns
+    found
     add-b
     loop-less
     loop-again
-    returns-2)
+    none-found)

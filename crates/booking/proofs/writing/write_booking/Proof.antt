@@ -1,47 +1,31 @@
-use Rattle.booking.proofs.Numbers.{bookedWith-steps}
-use mathlib.Core.Path.{_≡_, ap, _∙_}
+-- The record, then the slot, then n. The slot's count is that of the ledger, since a record reaches no entry, and can rise.
+use mathlib.Core.Path.{ap, _∙_}
 use lib.ListN.{length}
 use native.Mathlib.Omega.{arith}
-use Rattle.rules.specs.Layout.{recordWords}
-use Rattle.booking.specs.Numbered.{bookedWith}
-use Rattle.booking.proofs.Held.{held-most, held-recorded}
 use borrow.Author.Needs.{needs}
+use Rattle.booking.proofs.Numbers.{bookedWith-steps}
+use Rattle.booking.proofs.Held.{held-most, held-recorded}
 use Rattle.booking.proofs.writing.write_booking.Statement.{statement}
 use Rattle.booking.proofs.writing.write_booking.Tie as tie
-use Rattle.booking.proofs.writing.write_booking.Reads as reads
-use Rattle.booking.proofs.writing.write_booking.Lts as lts
-use Rattle.booking.proofs.writing.enter_slot.Reads as enter-slot-reads
-use Rattle.booking.proofs.writing.new_row.Reads as new-row-reads
-use Rattle.booking.proofs.writing.put_record.Reads as put-record-reads
-use Rattle.words.proofs.head.Reads as head-reads
-use Rattle.words.proofs.set_head.Reads as set-head-reads
-use Rattle.words.proofs.wide.Reads as wide-reads
 
--- src/writing.rt:70:9
 head-requires : tie.Need-head-requires
 head-requires c κs = search needs
 
--- src/writing.rt:71:15
 new-row-requires : tie.Need-new-row-requires
 new-row-requires c κs = search needs
 
--- src/writing.rt:72:19
 wide-requires : tie.Need-wide-requires
 wide-requires c κs = search needs
 
--- src/writing.rt:72:35
 slice-aggregate-put-record : tie.Need-slice-aggregate-put-record
 slice-aggregate-put-record c = search needs
 
--- src/writing.rt:72:5
 put-record-requires : tie.Need-put-record-requires
 put-record-requires c κs = search needs
 
--- src/writing.rt:73:19
 wide-requires-2 : tie.Need-wide-requires-2
 wide-requires-2 c κs = search needs
 
--- src/writing.rt:73:5
 enter-slot-requires : tie.Need-enter-slot-requires
 enter-slot-requires c κs =
     let P = c .before .before .before .before in
@@ -49,19 +33,15 @@ enter-slot-requires c κs =
     let S = N .before .before .before .before in
     (search needs, search needs, rw (P .put-record .ensures, held-recorded (S .args .w .now) (N .new-row .result) (P .before .before .wide .result) (c .wide2 .result) (ap length (N .new-row .ensures)) (search needs), c .wide2 .ensures .0) (omega (arith, held-most (S .pre .0) (S .args .slot) (search needs))))
 
--- src/writing.rt:74:42
 add-set-head : tie.Need-add-set-head
 add-set-head c = search needs
 
--- src/writing.rt:74:5
 set-head-requires : tie.Need-set-head-requires
 set-head-requires c κs = search needs
 
--- src/writing.rt:66:1
 same-length : tie.Need-same-length
 same-length c = search needs
 
--- src/writing.rt:66:1
 returns : tie.Need-returns
 returns c =
     let E = c .before .before .before .before .before .before in
@@ -69,7 +49,7 @@ returns c =
     let N = P .before .before .before .before in
     let S = N .before .before .before .before in
     c .before .before .set-head .ensures
-    ∙ bookedWith-steps (S .args .w .now) (S .args .name) (S .args .slot) (S .args .p .now)
+    ∙ bookedWith-steps (S .args .w .now) (S .args .name) (S .args .slot) (S .args .parents .now)
     (N .before .head .ensures)
     (N .new-row .ensures)
     (rw (P .before .before .wide .ensures .0) at (P .put-record .ensures))

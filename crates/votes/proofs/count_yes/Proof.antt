@@ -6,11 +6,11 @@ use mathlib.Core.List.{List}
 use lib.ListN.{length, getD}
 use native.Mathlib.Omega.{arith}
 use borrow.Author.Needs.{needs}
-use Rattle.loops.specs.Total.{bit, count}
+use Rattle.loops.specs.Total.{count}
 use Rattle.loops.proofs.Total.{total-zero, total-more, count-le, bit-le}
 use Rattle.rules.specs.Votes.{voteOf, isYes}
-use Rattle.polling.proofs.votes.count_yes.Statement.{statement}
-use Rattle.polling.proofs.votes.count_yes.Tie as tie
+use Rattle.votes.proofs.count_yes.Statement.{statement}
+use Rattle.votes.proofs.count_yes.Tie as tie
 
 abbrev saysYes : List ℕ → ℕ → Bool
 saysYes votes i = isYes (voteOf (getD votes i 0))

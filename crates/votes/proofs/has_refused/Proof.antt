@@ -10,8 +10,8 @@ use borrow.Author.Tests.{le-ltb}
 use Rattle.loops.specs.Search.{first}
 use Rattle.loops.proofs.Search.{Searched, search-start, search-miss, search-over, →any}
 use Rattle.rules.specs.Votes.{voteOf, isRefused}
-use Rattle.polling.proofs.votes.has_refused.Statement.{statement}
-use Rattle.polling.proofs.votes.has_refused.Tie as tie
+use Rattle.votes.proofs.has_refused.Statement.{statement}
+use Rattle.votes.proofs.has_refused.Tie as tie
 
 abbrev refusedAt : List ℕ → ℕ → Bool
 refusedAt votes i = isRefused (voteOf (getD votes i 0))
