@@ -1,10 +1,11 @@
 // A slot entry.
 use rules::layout;
 ghost use mathlib.Core.Path.{_≡_};
-ghost use Prim.Native.Nat.{_<_, _≤_};
+ghost use Prim.Native.Nat.{_<_};
 ghost use lib.ListN.{length};
-ghost use Rattle.rules.specs.Layout.{size, mostBookings, slots, bookings};
+ghost use Rattle.rules.specs.Layout.{size, slots};
 ghost use Rattle.rules.specs.IsSound.{chits, bookingsOf, isBookingOf, entryEmpty, entryHeld, slotGood};
+ghost use Rattle.rows.specs.Counted.{Counted};
 
 // 65535, 65535, 0, 0.
 fn entry_empty(w: &[u16], s: usize) -> bool
@@ -19,7 +20,7 @@ fn entry_empty(w: &[u16], s: usize) -> bool
 
 // i is one of the n bookings, and has slot s.
 fn is_booking_of(w: &[u16], n: usize, s: usize, i: usize) -> bool
-    requires { ⌜ (length (now w) ≡ size) × (n ≡ bookings (now w)) × (n ≤ mostBookings) ⌝ }
+    requires { ⌜ Counted (now w) n ⌝ }
     ensures { λ r. ⌜ r ≡ isBookingOf (now (w .entry)) s i ⌝ }
 {
     if i < n {
@@ -30,7 +31,7 @@ fn is_booking_of(w: &[u16], n: usize, s: usize, i: usize) -> bool
 
 // The number of bookings is the true one, preferred and last are bookings of the slot, the counter is within the chits.
 fn entry_held(w: &[u16], n: usize, most: usize, s: usize, held: usize) -> bool
-    requires { ⌜ (length (now w) ≡ size) × (n ≡ bookings (now w)) × (n ≤ mostBookings) × (s < slots) ⌝ }
+    requires { ⌜ Counted (now w) n × (s < slots) ⌝ }
     requires { ⌜ (most ≡ chits (now w)) × (held ≡ bookingsOf (now w) s) ⌝ }
     ensures { λ r. ⌜ r ≡ entryHeld (now (w .entry)) s ⌝ }
 {
@@ -47,7 +48,7 @@ fn entry_held(w: &[u16], n: usize, most: usize, s: usize, held: usize) -> bool
 
 // Slot entry s, of which held records below n are bookings and most records are in state 2.
 pub fn slot_good(w: &[u16], n: usize, most: usize, s: usize, held: usize) -> bool
-    requires { ⌜ (length (now w) ≡ size) × (n ≡ bookings (now w)) × (n ≤ mostBookings) × (s < slots) ⌝ }
+    requires { ⌜ Counted (now w) n × (s < slots) ⌝ }
     requires { ⌜ (most ≡ chits (now w)) × (held ≡ bookingsOf (now w) s) ⌝ }
     ensures { λ r. ⌜ r ≡ slotGood (now (w .entry)) s ⌝ }
 {

@@ -12,11 +12,11 @@ wide-requires c κs = search needs
 
 below : tie.Need-returns
 below c =
-    rw (← c .before .before .before .before .pre .1, lt-ltb _ _ (c .before .before .if1 .taken), c .wide .ensures .0, c .before .get .ensures)
+    rw (← c .before .before .before .before .pre .counts, lt-ltb _ _ (c .before .before .if1 .taken), c .wide .ensures .0, c .before .get .ensures)
 
 past : tie.Need-returns-2
 past c =
-    rw (← c .before .before .pre .1, le-ltb _ _ (c .if1 .left))
+    rw (← c .before .before .pre .counts, le-ltb _ _ (c .if1 .left))
 
 pub is-booking-of-spec : {M : Type 1} → statement M
 is-booking-of-spec = tie.close (tie.spec get-requires wide-requires below past)
