@@ -13,7 +13,8 @@ use borrow.Author.Tests.{eq-eqb, ne-eqb}
 use Rattle.loops.specs.Total.{bit, count}
 use Rattle.loops.proofs.Turns.{upTo-zero, upTo-more, upTo-kept}
 use Rattle.loops.proofs.Total.{total-zero, total-more, count-le}
-use Rattle.rules.specs.Layout.{slots, slotOf}
+use Rattle.rules.specs.Layout.{slots, bookings, slotOf}
+use Rattle.rules.specs.IsSound.{bookingsOf}
 use Rattle.sound.specs.Held.{counted, heldBelow}
 
 -- one booking more
@@ -50,3 +51,8 @@ heldBelow-le w i s = go (decLt s slots)
     go : Dec (s < slots) → getD (heldBelow w i) s 0 ≤ i
     go (yes h) = omega (arith, heldBelow-count w i s h, count-le (λ j. eqb (slotOf w j) s) i)
     go (no h) = rw (List·getD-eq-default (heldBelow w i) 0 {n = s} (omega (arith, heldBelow-length w i))) (omega arith)
+
+-- the whole table has each slot's number of bookings
+pub heldBelow-bookingsOf : (w : List ℕ) (n s : ℕ) → n ≡ bookings w → s < slots → getD (heldBelow w n) s 0 ≡ bookingsOf w s
+unfolding bookingsOf
+heldBelow-bookingsOf w n s e h = heldBelow-count w n s h ∙ ap (count (λ j. eqb (slotOf w j) s)) e

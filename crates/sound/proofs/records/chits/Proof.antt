@@ -49,7 +49,7 @@ returns c =
     let L = c .before .loop in
     let S = c .before .before .before in
     let e : L .i ≡ S .args .n = omega arith in
-    L .inv .1 ∙ ap (count (isChit (S .args .w .now))) (e ∙ S .pre .1)
+    L .inv .1 ∙ ap (count (isChit (S .args .w .now))) (e ∙ S .pre .counts)
 
 pub chits-spec : {M : Type 1} → statement M
 chits-spec =
