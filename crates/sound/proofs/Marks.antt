@@ -11,13 +11,13 @@ use lib.Dec.{eqb, leb, ltb}
 use lib.ListN.{length, getD, set, replicate, length-set, length-replicate, getD-replicate}
 use lib.Seq.{getD-set-same, getD-set-other}
 use borrow.Author.Tests.{eq-eqb, ne-eqb, leb-true}
-use Rattle.loops.specs.Search.{any}
+use Rattle.loops.specs.Search.{any, all}
 use Rattle.loops.proofs.Turns.{upTo-zero, upTo-more, upTo-kept}
-use Rattle.rules.specs.Layout.{mostBookings, slots, polls, slotOf, stateOf, ordinalOf}
-use Rattle.rules.specs.IsSound.{nameNew, parentsGood, stateGood, bookingGood}
+use Rattle.rules.specs.Layout.{mostBookings, slots, bookings, polls, slotOf, stateOf, ordinalOf}
+use Rattle.rules.specs.IsSound.{nameNew, parentsGood, stateGood, bookingGood, ordinalsHeld}
 use Rattle.rows.proofs.Few.{any-none}
 use Rattle.sound.specs.Ordinals.{isMarked, marked, ordinalsBelow}
-use Rattle.sound.proofs.Searches.{any-suc}
+use Rattle.sound.proofs.Searches.{any-suc, all-same}
 
 -- one mark more
 isMarked-marked : (m : List ℕ) (o q : ℕ) → o < length m → isMarked (marked q m) o ≡ isMarked m o || eqb q o
@@ -62,7 +62,10 @@ judged false s m n h = refl
 
 pub bookingGood-marked : (w : List ℕ) (i : ℕ) → polls w < mostBookings
     → (nameNew w i && leb 1 (slotOf w i) && ltb (slotOf w i) slots && parentsGood w i && stateGood w i
-        && (eqb (ordinalOf w i) 0 || not (isMarked (ordinalsBelow w i) (ordinalOf w i)))) ≡ bookingGood w i
+    && (eqb (ordinalOf w i) 0 || not (isMarked (ordinalsBelow w i) (ordinalOf w i)))) ≡ bookingGood w i
 unfolding bookingGood
 bookingGood-marked w i h =
     judged (nameNew w i && leb 1 (slotOf w i) && ltb (slotOf w i) slots && parentsGood w i) (stateGood w i) _ _ (λ e. rw (isMarked-any w i (ordinalOf w i) (ordinal-lt w i h e)))
+
+pub ordinalsHeld-marked : (w : List ℕ) → polls w < mostBookings → all (λ o. isMarked (ordinalsBelow w (bookings w)) (o + 1)) (polls w) ≡ ordinalsHeld w
+ordinalsHeld-marked w h = all-same _ _ (polls w) (λ o l. isMarked-any w (bookings w) (o + 1) (omega arith))

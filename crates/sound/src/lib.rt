@@ -1,8 +1,9 @@
 // Is a workspace sound: the passes over its rows. Every pass is linear but for names, which are compared with all lower ones.
-pub mod ordinals;
-pub mod held;
-pub mod records;
 pub mod entries;
+pub mod held;
+pub mod ordinals;
+pub mod records;
+
 use rules::layout;
 ghost use mathlib.Core.Path.{_≡_};
 ghost use lib.ListN.{length};

@@ -1,49 +1,55 @@
+-- Where no record below n is bad, the marks are all the ordinals held; else the first part of the rule fails.
+use mathlib.Core.Path.{_≡_, sym, _∙_}
+use mathlib.Core.Bool.{true}
+use borrow.Author.Tests.{eq-eqb, ne-eqb}
 use borrow.Author.Needs.{needs}
+use Rattle.loops.specs.Search.{all}
+use Rattle.rules.specs.Layout.{bookings}
+use Rattle.rules.specs.IsSound.{recordGood, ordinalsHeld, recordsGood}
+use Rattle.sound.proofs.Marks.{ordinalsBelow-zero, ordinalsHeld-marked}
 use Rattle.sound.proofs.records.records_good.Statement.{statement}
 use Rattle.sound.proofs.records.records_good.Tie as tie
-use Rattle.sound.proofs.records.records_good.Reads as reads
-use Rattle.sound.proofs.records.records_good.Lts as lts
-use Rattle.sound.proofs.ordinals.all_marked.Reads as all-marked-reads
-use Rattle.sound.proofs.records.bad_record.Reads as bad-record-reads
-use Rattle.sound.proofs.records.stray_record.Reads as stray-record-reads
-use Rattle.words.proofs.head.Reads as head-reads
-use Rattle.words.proofs.wide.Reads as wide-reads
 
--- src/records.rt:102:25
 head-requires : tie.Need-head-requires
 head-requires c κs = search needs
 
--- src/records.rt:102:9
 wide-requires : tie.Need-wide-requires
 wide-requires c κs = search needs
 
--- src/records.rt:104:31
 slice-aggregate-bad-record : tie.Need-slice-aggregate-bad-record
 slice-aggregate-bad-record c = search needs
 
--- src/records.rt:104:8
 bad-record-requires : tie.Need-bad-record-requires
-bad-record-requires c κs = ?
+bad-record-requires c κs =
+    let S = c .before .before .before .before in
+    ((S .pre .0, S .pre .1, sym (ordinalsBelow-zero (S .args .w .now))), S .pre .2)
 
--- src/records.rt:105:37
 slice-aggregate-all-marked : tie.Need-slice-aggregate-all-marked
 slice-aggregate-all-marked c = search needs
 
--- src/records.rt:105:16
 all-marked-requires : tie.Need-all-marked-requires
 all-marked-requires c κs = search needs
 
--- src/records.rt:105:51
 stray-record-requires : tie.Need-stray-record-requires
 stray-record-requires c κs = search needs
 
--- src/records.rt:105:9
-returns : tie.Need-returns
-returns c = ?
+none-bad : tie.Need-returns
+unfolding recordsGood
+none-bad c =
+    let I = c .before .before .before in
+    let B = I .before .before in
+    let S = B .before .before .before .before .before in
+    let w = S .args .w .now in
+    let good : all (recordGood w) (bookings w) ≡ true = rw (← S .pre .0 .counts) (eq-eqb _ _ (sym (B .bad-record .ensures .0) ∙ I .if1 .taken)) in
+    let held : c .before .all-marked .result ≡ ordinalsHeld w =
+    c .before .all-marked .ensures ∙ rw (B .before .before .wide .ensures .0, B .before .before .before .head .ensures, B .bad-record .ensures .1, I .if1 .taken, S .pre .0 .counts) (ordinalsHeld-marked w (S .pre .1)) in
+    rw (good, held, c .stray-record .ensures)
 
--- src/records.rt:98:1
-returns-2 : tie.Need-returns-2
-returns-2 c = ?
+some-bad : tie.Need-returns-2
+unfolding recordsGood
+some-bad c =
+    let S = c .before .before .before .before .before .before .before in
+    rw (← S .pre .0 .counts, ne-eqb _ _ (λ q. c .if1 .left (c .before .before .bad-record .ensures .0 ∙ q)))
 
 pub records-good-spec : {M : Type 1} → statement M
 records-good-spec =
@@ -56,5 +62,5 @@ records-good-spec =
     slice-aggregate-all-marked
     all-marked-requires
     stray-record-requires
-    returns
-    returns-2)
+    none-bad
+    some-bad)
