@@ -1,0 +1,3 @@
+-- Laws that several proofs cite. They assume nothing.
+pub mod Few
+pub mod States
