@@ -1,0 +1,2 @@
+-- Laws that the public calls share. They assume nothing.
+pub mod Testing

@@ -1,0 +1,2 @@
+-- What the public calls ask of a workspace first.
+pub mod Test
