@@ -5,4 +5,8 @@ pub mod Noted
 pub mod Raised
 pub mod Settled
 pub mod Settling
+pub mod Ordinals
+pub mod PolledSound
+pub mod Succeeded
+pub mod Failed
 pub mod Polled

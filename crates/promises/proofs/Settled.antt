@@ -234,17 +234,24 @@ module _ (u v : List ℕ) (j : ℕ)
 
 -- ---- an invariant is carried through the turns
 
-module _ (m u : List ℕ) (whole : length u ≡ size) (P : ℕ → List ℕ → Type 0) where
-  pub settled-carried : (n : ℕ) → n ≤ mostBookings → ((j : ℕ) → j < n → slotOf u j < slots)
-      → ((j : ℕ) (v : List ℕ) → j < n → isMember m j ≡ false → P j v → P (suc j) v)
-      → ((j : ℕ) (v v′ : List ℕ) → j < n → isMember m j ≡ true → Settles u v v′ j → P j v → P (suc j) v′)
+-- words whose n first records can be settled
+pub record Settleable (u : List ℕ) (n : ℕ) : Type 0 where
+  pub whole : length u ≡ size
+  pub few : n ≤ mostBookings
+  pub fits : (j : ℕ) → j < n → slotOf u j < slots
+
+module _ (m u : List ℕ) (P : ℕ → List ℕ → Type 0) where
+  pub settled-carried : (n : ℕ) → Settleable u n
+      → ((j : ℕ) (v : List ℕ) → isMember m j ≡ false → P j v → P (suc j) v)
+      → ((j : ℕ) (v v′ : List ℕ) → j < n → Settles u v v′ j → P j v → P (suc j) v′)
       → P 0 u → P n (settled m n u)
   unfolding upTo
-  settled-carried zero few fits pass turn start = start
-  settled-carried (suc n) few fits pass turn start =
-      go (isMember m n) refl
-      (settled-carried n (omega arith) (λ j l. fits j (omega arith)) (λ j v l. pass j v (omega arith)) (λ j v v′ l. turn j v v′ (omega arith)) start)
+  settled-carried zero able pass turn start = start
+  settled-carried (suc n) able pass turn start = go (isMember m n) refl (settled-carried n fewer pass (λ j v v′ l. turn j v v′ (omega arith)) start)
     where
+      fewer : Settleable u n
+      fewer = record { whole = able .whole; few = omega arith; fits = λ j l. able .fits j (omega arith) }
+
       before : List ℕ
       before = settled m n u
 
@@ -254,8 +261,8 @@ module _ (m u : List ℕ) (whole : length u ≡ size) (P : ℕ → List ℕ → 
       settles : isMember m n ≡ true → Settles u before (settleOne m n before) n
       settles e =
           rw (settleOne-member m n before e, same)
-          (end-settles u before n (field-settled-kept m n u) (omega arith) (omega (arith, length-settled m n u, fits n (omega arith))))
+          (end-settles u before n (field-settled-kept m n u) (omega arith) (omega (arith, length-settled m n u, able .fits n (omega arith))))
 
       go : (b : Bool) → isMember m n ≡ b → P n before → P (suc n) (settleOne m n before)
-      go true e h = turn n before (settleOne m n before) (omega arith) e (settles e) h
-      go false e h = rw (settleOne-passed m n before e) (pass n before (omega arith) e h)
+      go true e h = turn n before (settleOne m n before) (omega arith) (settles e) h
+      go false e h = rw (settleOne-passed m n before e) (pass n before e h)

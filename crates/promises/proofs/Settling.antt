@@ -8,12 +8,10 @@ use Prim.Native.Nat.{ℕ, suc, _+_, _<_, _≤_}
 use native.Mathlib.Nat.{eq-or-lt-of-le, le-of-suc-le-suc}
 use native.Mathlib.Decide.{ℕ-discrete}
 use native.Mathlib.Omega.{arith}
-use lib.ListN.{length}
 use Rattle.rules.specs.Layout.{
-  size,
-  slots,
-  mostBookings,
+  recordWords,
   slotWords,
+  field,
   entry,
   preferredField,
   lastField,
@@ -28,20 +26,20 @@ use Rattle.rules.specs.Layout.{
 }
 use Rattle.rules.specs.Ancestry.{isMember}
 use Rattle.rules.specs.Poll.{settled}
-use Rattle.promises.proofs.Settled.{field-settled-kept, Settles, settled-carried}
+use Rattle.promises.proofs.Settled.{field-settled-kept, Settles, Settleable, settled-carried}
 
 -- one of the n first records, with slot s
 abbrev pub Among : List ℕ → (n s i : ℕ) → Type 0
 Among u n s i = (i < n) × (slotOf u i ≡ s)
 
-module _ (m u : List ℕ) (n : ℕ) (whole : length u ≡ size) (few : n ≤ mostBookings) (fits : (j : ℕ) → j < n → slotOf u j < slots) where
+module _ (m u : List ℕ) (n : ℕ) (able : Settleable u n) where
   -- ---- a slot without bookings is never touched
 
   pub entry-settled-empty : (s g : ℕ) → g < slotWords → ((k : ℕ) → k < n → slotOf u k ≢ s) → entry (settled m n u) s g ≡ entry u s g
   entry-settled-empty s g h absent =
-      settled-carried m u whole (λ t v. entry v s g ≡ entry u s g) n few fits
-      (λ j v l e same. same)
-      (λ j v v′ l e turn same. turn .others s g (λ q. absent j l (sym q)) h ∙ same)
+      settled-carried m u (λ t v. entry v s g ≡ entry u s g) n able
+      (λ j v e same. same)
+      (λ j v v′ l turn same. turn .others s g (λ q. absent j l (sym q)) h ∙ same)
       refl
 
   -- ---- preferred and last stay bookings of their slot
@@ -50,9 +48,9 @@ module _ (m u : List ℕ) (n : ℕ) (whole : length u ≡ size) (few : n ≤ mos
       → ((v v′ : List ℕ) (j : ℕ) → Settles u v v′ j → (entry v′ (slotOf u j) f ≡ j) ⊎ (entry v′ (slotOf u j) f ≡ entry v (slotOf u j) f))
       → Among u n s (entry u s f) → Among u n s (entry (settled m n u) s f)
   among-settled f s h rule start =
-      settled-carried m u whole (λ t v. Among u n s (entry v s f)) n few fits
-      (λ j v l e a. a)
-      (λ j v v′ l e turn a. go j v v′ l turn a (ℕ-discrete s (slotOf u j)))
+      settled-carried m u (λ t v. Among u n s (entry v s f)) n able
+      (λ j v e a. a)
+      (λ j v v′ l turn a. go j v v′ l turn a (ℕ-discrete s (slotOf u j)))
       start
     where
       go : (j : ℕ) (v v′ : List ℕ) → j < n → Settles u v v′ j → Among u n s (entry v s f) → Dec (s ≡ slotOf u j) → Among u n s (entry v′ s f)
@@ -92,9 +90,9 @@ module _ (m u : List ℕ) (n : ℕ) (whole : length u ≡ size) (few : n ≤ mos
     pub counter-settled-le : counterIn (settled m n u) s ≤ counterIn u s + 1
     counter-settled-le =
         ⊎-elim (λ (e : counterIn (settled m n u) s ≡ counterIn u s). omega arith) (λ e. e .1)
-        (settled-carried m u whole Counted n few fits
-        (λ j v l e c. ⊎-elim inl (λ (r : (lastIn v s < j) × (counterIn v s ≤ counterIn u s + 1)). inr (omega arith)) c)
-        (λ j v v′ l e. counted-turn j v v′)
+        (settled-carried m u Counted n able
+        (λ j v e c. ⊎-elim inl (λ (r : (lastIn v s < j) × (counterIn v s ≤ counterIn u s + 1)). inr (omega arith)) c)
+        (λ j v v′ l. counted-turn j v v′)
         (inl refl))
 
   -- ---- the preferred one leads: a turn puts it at least level with its member, and never lower
@@ -130,17 +128,20 @@ module _ (m u : List ℕ) (n : ℕ) (whole : length u ≡ size) (few : n ≤ mos
             rw (turn .others (slotOf u k) preferredField d (omega arith))
             (h .0, λ c. h .1 (⊎-elim (λ (q : k ≡ j). absurd (d (ap (slotOf u) q))) (λ b. b) (passed-before j c)))
 
-    settled-led : k < n → Among u n (slotOf u k) (preferredIn u (slotOf u k))
+    settled-led : preferredIn u (slotOf u k) < n
         → (isMember m k ≡ false → confidenceOf u k ≤ confidenceOf u (preferredIn u (slotOf u k)))
         → LedAt n (settled m n u)
-    settled-led below held start =
-        settled-carried m u whole LedAt n few fits (λ j v l. led-pass j v) (λ j v v′ l e. led-turn j v v′ l)
-        (held .0, ⊎-elim start (λ (l : k < 0). absurd (omega arith)))
+    settled-led held start = settled-carried m u LedAt n able led-pass led-turn (held, ⊎-elim start (λ (l : k < 0). absurd (omega arith)))
 
-    pub led-settled : k < n → Among u n (slotOf u k) (preferredIn u (slotOf u k))
+    pub led-settled : k < n → preferredIn u (slotOf u k) < n
         → (isMember m k ≡ false → confidenceOf u k ≤ confidenceOf u (preferredIn u (slotOf u k)))
         → confidenceOf (settled m n u) k ≤ confidenceOf (settled m n u) (preferredIn (settled m n u) (slotOf (settled m n u) k))
     led-settled below held start =
-        let end = settled-led below held start in
-        let same : (x : ℕ) → x < n → confidenceOf (settled m n u) x ≡ confidenceOf u x = λ x l. field-settled-kept m n u x confidenceField (omega arith) (omega arith) in
-        rw (field-settled-kept m n u k slotField (omega arith) (omega arith), same k below, same (preferredIn (settled m n u) (slotOf u k)) (end .0)) (end .1 (inr below))
+        let end = settled-led held start in
+        let same : (x g : ℕ) → x < n → g < recordWords → field (settled m n u) x g ≡ field u x g
+        = λ x g l h. field-settled-kept m n u x g (omega arith) h in
+        rw (
+          same k slotField below (omega arith),
+          same k confidenceField below (omega arith),
+          same (preferredIn (settled m n u) (slotOf u k)) confidenceField (end .0) (omega arith),
+        ) (end .1 (inr below))
