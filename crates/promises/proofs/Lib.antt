@@ -3,6 +3,7 @@ pub mod Taken
 pub mod Slots
 pub mod Noted
 pub mod Raised
+pub mod SettledWords
 pub mod Settled
 pub mod Settling
 pub mod Ordinals

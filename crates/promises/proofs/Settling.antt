@@ -26,7 +26,8 @@ use Rattle.rules.specs.Layout.{
 }
 use Rattle.rules.specs.Ancestry.{isMember}
 use Rattle.rules.specs.Poll.{settled}
-use Rattle.promises.proofs.Settled.{field-settled-kept, Settles, Settleable, settled-carried}
+use Rattle.promises.proofs.SettledWords.{field-settled-kept}
+use Rattle.promises.proofs.Settled.{Settles, Settleable, settled-carried}
 
 -- one of the n first records, with slot s
 abbrev pub Among : List ℕ → (n s i : ℕ) → Type 0

@@ -35,7 +35,8 @@ use Rattle.promises.proofs.Raised.{
   confidence-raised,
   confidence-raised-rest,
 }
-use Rattle.promises.proofs.Settled.{length-settled, header-settled-kept, field-settled-kept, held-settled-kept, Settleable}
+use Rattle.promises.proofs.SettledWords.{length-settled, header-settled-kept, field-settled-kept, held-settled-kept}
+use Rattle.promises.proofs.Settled.{Settleable}
 use Rattle.promises.proofs.Settling.{
   Among,
   entry-settled-empty,
