@@ -3,22 +3,11 @@ use mathlib.Core.Path.{_≡_}
 use mathlib.Core.List.{List}
 use Prim.Native.Nat.{ℕ, _<_}
 use native.Mathlib.Omega.{arith}
-use Rattle.rules.specs.Layout.{
-  mostBookings,
-  entry,
-  bookings,
-  slotField,
-  preferredField,
-  lastField,
-  counterField,
-  heldField,
-  slotOf,
-  confidenceOf,
-  preferredIn,
-}
+use Rattle.rules.specs.Layout.{entry, bookings, slotField, preferredField, lastField, counterField, heldField, slotOf, confidenceOf, preferredIn}
 use Rattle.rules.specs.Sound.{Ledger}
 use Rattle.rules.specs.Poll.{failed}
 use Rattle.promises.proofs.Taken.{Led}
+use Rattle.promises.proofs.Slots.{booking-lt}
 use Rattle.promises.proofs.Noted.{Noted, confidence-noted, entry-noted-kept, noted-Noted, Noted-bookings}
 use Rattle.promises.proofs.PolledSound.{Gained}
 
@@ -26,14 +15,11 @@ pub confidence-failed : (w : List ℕ) (i j : ℕ) → confidenceOf (failed w i)
 confidence-failed w i j = confidence-noted w i 1 j
 
 module _ (w : List ℕ) (i : ℕ) (ledger : Ledger w) (below : i < bookings w) where
-  within : (j : ℕ) → j < bookings w → j < mostBookings
-  within j h = omega (arith, ledger .sound .bookingsMost)
-
   entry-failed : (s g : ℕ) → entry (failed w i) s g ≡ entry w s g
-  entry-failed s g = entry-noted-kept w i 1 s g (within i below)
+  entry-failed s g = entry-noted-kept w i 1 s g (booking-lt w (ledger .sound) i below)
 
   pub failed-Noted : Noted w (failed w i) i 1
-  failed-Noted = noted-Noted w i 1 (ledger .whole) (within i below)
+  failed-Noted = noted-Noted w i 1 (ledger .whole) (booking-lt w (ledger .sound) i below)
 
   pub failed-Gained : Gained w (failed w i) 0
   failed-Gained = record {
@@ -50,7 +36,7 @@ module _ (w : List ℕ) (i : ℕ) (ledger : Ledger w) (below : i < bookings w) w
   failed-led led k h =
       let here : k < bookings w = omega (arith, Noted-bookings failed-Noted) in
       rw (
-        failed-Noted .told k slotField (within k here) (omega arith),
+        failed-Noted .told k slotField (booking-lt w (ledger .sound) k here) (omega arith),
         entry-failed (slotOf w k) preferredField,
         confidence-failed w i k,
         confidence-failed w i (preferredIn w (slotOf w k)),

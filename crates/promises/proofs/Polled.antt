@@ -16,6 +16,8 @@ use Rattle.promises.proofs.Noted.{Noted, Noted-bookings, Noted→Grown}
 use Rattle.promises.proofs.PolledSound.{Gained, sound-noted}
 use Rattle.promises.proofs.Succeeded.{succeeded-Noted, succeeded-Gained, succeeded-led}
 use Rattle.promises.proofs.Failed.{failed-Noted, failed-Gained, failed-led}
+pub use Rattle.promises.proofs.Succeeded.{confidence-succeeded}
+pub use Rattle.promises.proofs.Failed.{confidence-failed}
 
 -- what holds after a success and after a failure holds after a poll
 pub polled-either : (P : List ℕ → Type 0) (w : List ℕ) (i : ℕ) (votes : List ℕ) → P (succeeded w i) → P (failed w i) → P (polled w i votes)

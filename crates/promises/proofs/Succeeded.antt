@@ -7,7 +7,6 @@ use native.Mathlib.Omega.{arith}
 use Rattle.loops.specs.Total.{bit}
 use Rattle.loops.proofs.Total.{bit-le}
 use Rattle.rules.specs.Layout.{
-  mostBookings,
   entry,
   bookings,
   slotField,
@@ -25,7 +24,7 @@ use Rattle.rules.specs.Ancestry.{ancestry, isMember}
 use Rattle.rules.specs.Sound.{Ledger, BookingOf}
 use Rattle.rules.specs.Poll.{noted, raised, succeeded}
 use Rattle.promises.proofs.Taken.{Led}
-use Rattle.promises.proofs.Slots.{slot-absent, slot-lt, slot-held}
+use Rattle.promises.proofs.Slots.{booking-lt, slot-absent, slot-lt, slot-held}
 use Rattle.promises.proofs.Noted.{Noted, length-noted, confidence-noted, entry-noted-kept, noted-Noted, Noted-kept, Noted-bookings}
 use Rattle.promises.proofs.Raised.{
   length-raised,
@@ -52,30 +51,27 @@ abbrev raisedWords : List ℕ → ℕ → List ℕ
 raisedWords w i = raised (ancestry w i) (bookings w) (noted w i 2)
 
 module _ (w : List ℕ) (i : ℕ) (ledger : Ledger w) (below : i < bookings w) where
-  within : (j : ℕ) → j < bookings w → j < mostBookings
-  within j h = omega (arith, ledger .sound .bookingsMost)
-
   -- ---- the members raised
 
   raised-Noted : Noted w (raisedWords w i) i 2
   raised-Noted =
-      Noted-kept (raisedWords w i) (within i below) (noted-Noted w i 2 (ledger .whole) (within i below))
+      Noted-kept (raisedWords w i) (booking-lt w (ledger .sound) i below) (noted-Noted w i 2 (ledger .whole) (booking-lt w (ledger .sound) i below))
       (length-raised (ancestry w i) (bookings w) (noted w i 2))
       (header-raised-kept (ancestry w i) (bookings w) (noted w i 2))
       (λ j g u. field-raised-beside (ancestry w i) (bookings w) (noted w i 2) j g)
 
   raised-confidence : (j : ℕ) → j < bookings w → confidenceOf (raisedWords w i) j ≡ confidenceOf w j + bit (isMember (ancestry w i) j)
   raised-confidence j h =
-      confidence-raised (ancestry w i) (bookings w) (noted w i 2) j h (omega (arith, length-noted w i 2, ledger .whole, within j h))
+      confidence-raised (ancestry w i) (bookings w) (noted w i 2) j h (omega (arith, length-noted w i 2, ledger .whole, booking-lt w (ledger .sound) j h))
       ∙ ap (λ c. c + bit (isMember (ancestry w i) j)) (confidence-noted w i 2 j)
 
   -- slots and their entries are as before
   raised-slot : (j : ℕ) → j < bookings w → slotOf (raisedWords w i) j ≡ slotOf w j
-  raised-slot j h = raised-Noted .told j slotField (within j h) (omega arith)
+  raised-slot j h = raised-Noted .told j slotField (booking-lt w (ledger .sound) j h) (omega arith)
 
   raised-entry : (s g : ℕ) → entry (raisedWords w i) s g ≡ entry w s g
   raised-entry s g =
-      entry-raised-kept (ancestry w i) (bookings w) (noted w i 2) s g (ledger .sound .bookingsMost) ∙ entry-noted-kept w i 2 s g (within i below)
+      entry-raised-kept (ancestry w i) (bookings w) (noted w i 2) s g (ledger .sound .bookingsMost) ∙ entry-noted-kept w i 2 s g (booking-lt w (ledger .sound) i below)
 
   raised-Settleable : Settleable (raisedWords w i) (bookings w)
   raised-Settleable = record {
@@ -88,14 +84,14 @@ module _ (w : List ℕ) (i : ℕ) (ledger : Ledger w) (below : i < bookings w) w
 
   pub succeeded-Noted : Noted w (succeeded w i) i 2
   succeeded-Noted =
-      Noted-kept (succeeded w i) (within i below) raised-Noted
+      Noted-kept (succeeded w i) (booking-lt w (ledger .sound) i below) raised-Noted
       (length-settled (ancestry w i) (bookings w) (raisedWords w i))
       (header-settled-kept (ancestry w i) (bookings w) (raisedWords w i))
       (λ j g u k d. field-settled-kept (ancestry w i) (bookings w) (raisedWords w i) j g u k)
 
   succeeded-confidence : (j : ℕ) → j < bookings w → confidenceOf (succeeded w i) j ≡ confidenceOf w j + bit (isMember (ancestry w i) j)
   succeeded-confidence j h =
-      field-settled-kept (ancestry w i) (bookings w) (raisedWords w i) j confidenceField (within j h) (omega arith) ∙ raised-confidence j h
+      field-settled-kept (ancestry w i) (bookings w) (raisedWords w i) j confidenceField (booking-lt w (ledger .sound) j h) (omega arith) ∙ raised-confidence j h
 
   -- a preferred or last one is a booking of its slot still
   succeeded-among : (s p q : ℕ) → (Among (raisedWords w i) (bookings w) s p → Among (raisedWords w i) (bookings w) s q) → BookingOf w s p → BookingOf w s q
