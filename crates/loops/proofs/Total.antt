@@ -1,13 +1,14 @@
 -- Laws of sums, counts and the greatest: one turn more, bounds, and sums of equal or growing parts.
 use mathlib.Core.Path.{_≡_, refl, sym, ap, ap₂, _∙_}
-use mathlib.Core.Bool.{Bool, true, false}
+use mathlib.Core.Bool.{Bool, true, false, _||_, or-false}
 use mathlib.Core.Logic.{_≢_, _⊎_, inl, inr, ⊎-elim}
 use Prim.Native.Nat.{ℕ, zero, suc, _+_, max, _<_, _≤_}
 use native.Mathlib.Numerals.{add-one}
 use native.Mathlib.Nat.{add-zero, eq-or-lt-of-le, le-of-suc-le-suc}
 use native.Mathlib.Decide.{decLt, ℕ-discrete}
 use native.Mathlib.Omega.{arith}
-use lib.Dec.{ltb}
+use lib.Dec.{ltb, eqb}
+use borrow.Author.Tests.{lt-ltb, eq-eqb, ne-eqb}
 use Rattle.loops.specs.Total.{bit, total, count, greatest}
 
 -- ---- bits
@@ -130,6 +131,49 @@ count-one p (suc n) i j e li lj ti tj =
     (λ (qj : j < n). count-one p n i j (omega (arith, count-some p n i qi ti)) qi qj ti tj)
     (eq-or-lt-of-le (le-of-suc-le-suc lj)))
     (eq-or-lt-of-le (le-of-suc-le-suc li))
+
+-- two that fail are missing
+pub count-lt-two : (p : ℕ → Bool) (n i j : ℕ) → i < n → j < n → i ≢ j → p i ≡ false → p j ≡ false → suc (count p n) < n
+count-lt-two p n i j li lj d fi fj =
+    let q : ℕ → Bool = λ k. p k || eqb k i in
+    let more : count q n ≡ count p n + 1 =
+    total-other (λ k. bit (p k)) (λ k. bit (q k)) n i 1 li (rw (fi, eq-eqb i i refl)) (λ k l e. rw (ne-eqb k i e, or-false)) in
+    omega (arith, count-lt q n j lj (rw (fj, ne-eqb j i (λ e. d (sym e)))))
+
+-- ---- numbers that have a value: no fewer than the values
+
+-- x is one of 1 to m at most once, and then it is above 0
+value-once : (x m : ℕ) → count (λ o. eqb x (suc o)) m ≤ bit (ltb 0 x)
+unfolding total
+value-once x zero = omega arith
+value-once x (suc m) = go (ℕ-discrete x (suc m)) (value-once x m)
+  where
+    go : Dec (x ≡ suc m) → count (λ o. eqb x (suc o)) m ≤ bit (ltb 0 x) → count (λ o. eqb x (suc o)) m + bit (eqb x (suc m)) ≤ bit (ltb 0 x)
+    go (yes e) h =
+        rw (lt-ltb 0 x (omega arith))
+        (omega (arith, count-none (λ o. eqb x (suc o)) m (λ o l. ne-eqb x (suc o) (λ q. omega arith)), bit-le (eqb x (suc m))))
+    go (no d) h = rw (ne-eqb x (suc m) d, add-zero) h
+
+values-total : (f : ℕ → ℕ) (n m : ℕ) → ((o : ℕ) → o < m → (i : ℕ) × (i < n) × (f i ≡ suc o)) → m ≤ total (λ i. count (λ o. eqb (f i) (suc o)) m) n
+values-total f n zero h = omega arith
+values-total f n (suc m) h =
+    let had = h m (omega arith) in
+    omega (
+      arith,
+      values-total f n m (λ o l. h o (omega arith)),
+      total-same (λ i. count (λ o. eqb (f i) (suc o)) (suc m)) (λ i. count (λ o. eqb (f i) (suc o)) m + bit (eqb (f i) (suc m))) n (λ i l. total-suc (λ o. bit (eqb (f i) (suc o))) m),
+      total-plus (λ i. count (λ o. eqb (f i) (suc o)) m) (λ i. bit (eqb (f i) (suc m))) n,
+      count-some (λ i. eqb (f i) (suc m)) n (had .0) (had .1) (eq-eqb (f (had .0)) (suc m) (had .2)),
+    )
+
+-- where each of 1 to m is the value of a number below n, at least m of these have a value above 0
+pub count-values : (f : ℕ → ℕ) (n m : ℕ) → ((o : ℕ) → o < m → (i : ℕ) × (i < n) × (f i ≡ suc o)) → m ≤ count (λ i. ltb 0 (f i)) n
+count-values f n m h =
+    omega (
+      arith,
+      values-total f n m h,
+      total-le (λ i. count (λ o. eqb (f i) (suc o)) m) (λ i. bit (ltb 0 (f i))) n (λ i l. value-once (f i) m),
+    )
 
 -- ---- the greatest
 

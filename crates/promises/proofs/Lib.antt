@@ -9,3 +9,16 @@ pub mod Booked
 pub mod Acceptance
 pub mod Refusals
 pub mod Ranges
+pub mod Slots
+pub mod Noted
+pub mod Raised
+pub mod SettledWords
+pub mod Settled
+pub mod Settling
+pub mod Ordinals
+pub mod PolledSound
+pub mod Succeeded
+pub mod Failed
+pub mod Polled
+pub mod Run
+pub mod Kept

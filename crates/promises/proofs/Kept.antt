@@ -1,0 +1,87 @@
+-- A ledger stays a ledger, and its bookings last: every call, taken or refused, on any sound workspace.
+use mathlib.Core.Path.{_≡_, refl, sym, subst}
+use mathlib.Core.Bool.{Bool, true, false, true≢false}
+use mathlib.Core.List.{List}
+use Prim.Native.Nat.{ℕ}
+use Rattle.rules.specs.declared.setting.Setting.{Setting}
+use Rattle.rules.specs.Book.{lookUp, numberOf}
+use Rattle.rules.specs.Calls.{openCall, bookCall, pollCall}
+use Rattle.rules.specs.Sound.{Ledger}
+use Rattle.rules.proofs.Opened.{opened-ledger}
+use Rattle.promises.specs.Run.{Call, Open, Book, Poll, Query, Accepted, Lead, Confidence, Size, outcomeOf, isTaken}
+use Rattle.promises.specs.Soundness.{OpenedSound, SoundKept}
+use Rattle.promises.specs.Lasting.{Grown, opens, BookingsLast, AncestryLasts}
+use Rattle.promises.proofs.Taken.{open-taken, open-kept, book-taken, book-kept, poll-taken, poll-kept}
+use Rattle.promises.proofs.Booked.{booked-ledger, booked-grown}
+use Rattle.promises.proofs.Polled.{polled-ledger, polled-grown}
+use Rattle.promises.proofs.Grown.{grown-self, ancestry-grown, reaches-grown}
+
+-- u is a ledger that has grown from w
+record Kept (w u : List ℕ) : Type 0 where
+  ledger : Ledger u
+  grown : Grown w u
+
+kept-words : {w v u : List ℕ} → u ≡ v → Kept w v → Kept w u
+kept-words {w = w} e k = subst (Kept w) (sym e) k
+
+kept-self : (w : List ℕ) → Ledger w → Kept w w
+kept-self w l = record { ledger = l; grown = grown-self w }
+
+kept-book : (w : List ℕ) (name slot : ℕ) (parents : List ℕ) (taken : Bool) → isTaken (bookCall w name slot parents .answer) ≡ taken
+    → Ledger w → Kept w (bookCall w name slot parents .words)
+kept-book w name slot parents true t l =
+    let o = book-taken w name slot parents t in
+    kept-words (o .2) (record { ledger = booked-ledger w name slot parents l (o .1); grown = booked-grown w name slot parents l (o .1) })
+kept-book w name slot parents false t l = kept-words (book-kept w name slot parents t) (kept-self w l)
+
+kept-poll : (w : List ℕ) (name : ℕ) (votes : List ℕ) (taken : Bool) → isTaken (pollCall w name votes .answer) ≡ taken
+    → Ledger w → Kept w (pollCall w name votes .words)
+kept-poll w name votes true t l =
+    let o = poll-taken w name votes t in
+    let i = numberOf (lookUp w name) in
+    kept-words (o .2) (record { ledger = polled-ledger w i votes l (o .1); grown = polled-grown w i votes l (o .1) })
+kept-poll w name votes false t l = kept-words (poll-kept w name votes t) (kept-self w l)
+
+-- every call but an opening
+call-kept : (c : Call) (w : List ℕ) → opens c ≡ false → Ledger w → Kept w (outcomeOf c w .words)
+unfolding outcomeOf
+call-kept (Open s) w n l = absurd (true≢false n)
+call-kept (Book name slot parents) w n l = kept-book w name slot parents (isTaken (bookCall w name slot parents .answer)) refl l
+call-kept (Poll name votes) w n l = kept-poll w name votes (isTaken (pollCall w name votes .answer)) refl l
+call-kept (Query name) w n l = kept-self w l
+call-kept (Accepted name) w n l = kept-self w l
+call-kept (Lead name) w n l = kept-self w l
+call-kept (Confidence name) w n l = kept-self w l
+call-kept (Size name) w n l = kept-self w l
+
+-- ---- the promises
+
+pub opened-sound : OpenedSound
+unfolding OpenedSound
+opened-sound w s t = let o = open-taken w s t in subst Ledger (sym (o .2)) (opened-ledger s (o .1))
+
+open-sound : (w : List ℕ) (s : Setting) (taken : Bool) → isTaken (openCall w s .answer) ≡ taken → Ledger w → Ledger (openCall w s .words)
+unfolding OpenedSound
+open-sound w s true t l = opened-sound w s t
+open-sound w s false t l = subst Ledger (sym (open-kept w s t)) l
+
+pub sound-kept : SoundKept
+unfolding SoundKept outcomeOf
+sound-kept (Open s) w l = open-sound w s (isTaken (openCall w s .answer)) refl l
+sound-kept (Book name slot parents) w l = call-kept (Book name slot parents) w refl l .ledger
+sound-kept (Poll name votes) w l = call-kept (Poll name votes) w refl l .ledger
+sound-kept (Query name) w l = l
+sound-kept (Accepted name) w l = l
+sound-kept (Lead name) w l = l
+sound-kept (Confidence name) w l = l
+sound-kept (Size name) w l = l
+
+pub bookings-last : BookingsLast
+unfolding BookingsLast
+bookings-last c w n l = call-kept c w n l .grown
+
+pub ancestry-lasts : AncestryLasts
+unfolding AncestryLasts
+ancestry-lasts c w n l i h =
+    let g = call-kept c w n l .grown in
+    (ancestry-grown w (outcomeOf c w .words) l g i h, λ j. reaches-grown w (outcomeOf c w .words) l g i j h)

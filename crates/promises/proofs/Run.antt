@@ -1,0 +1,272 @@
+-- Demand 3 over every run: what is right of a station after an opening, every call keeps.
+use mathlib.Core.Path.{_≡_, refl, sym, ap, ap₂, subst, _∙_}
+use mathlib.Core.Bool.{Bool, true, false, cond}
+use mathlib.Core.List.{List, [], _∷_}
+use mathlib.Core.Logic.{⊎-elim}
+use Prim.Native.Nat.{ℕ, zero, suc, _+_, _<_, _≤_}
+use native.Mathlib.Numerals.{add-one}
+use native.Mathlib.Nat.{add-zero, add-comm, eq-or-lt-of-le}
+use native.Mathlib.Omega.{arith}
+use Rattle.loops.specs.Total.{bit, total, count}
+use Rattle.loops.proofs.Total.{total-same, total-plus, total-more, total-zeros}
+use Rattle.rules.specs.declared.setting.Setting.{Setting}
+use Rattle.rules.specs.Answers.{Outcome}
+use Rattle.rules.specs.Layout.{bookings, polls, slotOf, confidenceOf, preferredIn, pollsField, confidenceField, mostBookings}
+use Rattle.rules.specs.Ancestry.{Reaches, ancestry, isMember}
+use Rattle.rules.specs.Readings.{sizeOf}
+use Rattle.rules.specs.Open.{opened}
+use Rattle.rules.specs.Book.{booked, lookUp, numberOf}
+use Rattle.rules.specs.Poll.{polled, isSuccess}
+use Rattle.rules.specs.Calls.{openCall, bookCall, pollCall}
+use Rattle.rules.specs.Sound.{Ledger}
+use Rattle.rules.proofs.Opened.{opened-ledger, header-opened, field-opened, bookings-opened}
+use Rattle.rules.proofs.Ancestry.{marks→Reaches, Reaches→marks}
+use Rattle.promises.specs.Run.{
+  Call,
+  Open,
+  Book,
+  Poll,
+  Query,
+  Accepted,
+  Lead,
+  Confidence,
+  Size,
+  outcomeOf,
+  isTaken,
+  History,
+  fresh,
+  withPoll,
+  historyAfter,
+  Station,
+  step,
+  run,
+  Opening,
+  after,
+}
+use Rattle.promises.specs.Soundness.{OpenedSound, SoundKept, RunSound}
+use Rattle.promises.specs.Confidence.{Counted, none, counts, passes, sizes, ConfidenceIsCounted, TotalIsSummed, PreferredIsMost}
+use Rattle.promises.specs.Lasting.{Grown, opens, BookingsLast, AncestryLasts, PollsAreCounted}
+use Rattle.promises.proofs.Taken.{Bookable, Pollable, Led, open-taken, open-kept, book-taken, book-kept, poll-taken, poll-kept}
+use Rattle.promises.proofs.BookedWords.{bookings-booked, polls-booked, confidenceOf-booked-same}
+use Rattle.promises.proofs.BookedRecords.{confidenceOf-booked-old}
+use Rattle.promises.proofs.Booked.{booked-ledger, booked-grown, booked-led}
+use Rattle.promises.proofs.Polled.{polled-ledger, polled-grown, polled-led, bookings-polled, polls-polled, confidence-succeeded, confidence-failed}
+use Rattle.promises.proofs.Grown.{
+  grown-self,
+  Within,
+  empty,
+  within,
+  within-more,
+  reaches-grown,
+  reaches-forth,
+  ancestry-grown,
+  size-grown,
+  sizes-grown,
+  counted-grown,
+  counted-above,
+}
+
+-- ---- what is right of a station after an opening
+
+pub record Right (w : List ℕ) (h : History) : Type 0 where
+  pub ledger : Ledger w
+  pub counted : (j : ℕ) → j < bookings w → Counted w j (h .successes) (confidenceOf w j)
+  pub summed : total (confidenceOf w) (bookings w) ≡ sizes w (h .successes)
+  pub led : Led w
+  pub polled : polls w ≡ h .taken
+  pub below : Within (bookings w) (h .successes)
+
+-- ---- a taken opening: one booking, no poll, no confidence
+
+module _ (s : Setting) (ledger : Ledger (opened s)) where
+  confidence-opened : (i : ℕ) → i < bookings (opened s) → confidenceOf (opened s) i ≡ 0
+  confidence-opened zero l = field-opened s 0 confidenceField (omega arith) (omega arith)
+  confidence-opened (suc i) l = absurd (omega (arith, bookings-opened s))
+
+  opened-right : Right (opened s) fresh
+  unfolding sizes
+  opened-right =
+      record {
+        ledger = ledger;
+        counted = λ j l. rw (confidence-opened j l) none;
+        summed = total-zeros (confidenceOf (opened s)) (bookings (opened s)) confidence-opened;
+        led = λ i l. omega (arith, confidence-opened i l);
+        polled = header-opened s pollsField (omega arith);
+        below = empty;
+      }
+
+-- ---- a taken booking
+
+module _ (w : List ℕ) (h : History) (right : Right w h) (name slot : ℕ) (parents : List ℕ) (able : Bookable w name slot parents) where
+  abbrev u : List ℕ
+  u = booked w name slot parents
+
+  abbrev older : Grown w u
+  older = booked-grown w name slot parents (right .ledger) able
+
+  booked-counted : (j : ℕ) → j < bookings u → Counted u j (h .successes) (confidenceOf u j)
+  booked-counted j l =
+      ⊎-elim
+      (λ (e : j ≡ bookings w).
+      rw (e, confidenceOf-booked-same w name slot parents (right .ledger .whole) (able .room))
+      (counted-above u (booked-ledger w name slot parents (right .ledger) able) (older .more) (omega arith) (right .below)))
+      (λ (m : j < bookings w).
+      rw (confidenceOf-booked-old w name slot parents (right .ledger) able j m)
+      (counted-grown w u (right .ledger) older (right .below) (right .counted j m)))
+      (eq-or-lt-of-le (omega (arith, bookings-booked w name slot parents (right .ledger .whole))))
+
+  booked-summed : total (confidenceOf u) (bookings u) ≡ sizes u (h .successes)
+  booked-summed =
+      ap (total (confidenceOf u)) (bookings-booked w name slot parents (right .ledger .whole))
+      ∙ total-more (confidenceOf u) (bookings w)
+      ∙ ap₂ _+_
+      (total-same (confidenceOf u) (confidenceOf w) (bookings w) (confidenceOf-booked-old w name slot parents (right .ledger) able))
+      (confidenceOf-booked-same w name slot parents (right .ledger .whole) (able .room))
+      ∙ add-zero (total (confidenceOf w) (bookings w))
+      ∙ right .summed
+      ∙ sym (sizes-grown w u (right .ledger) older (right .below))
+
+  booked-right : Right u h
+  booked-right =
+      record {
+        ledger = booked-ledger w name slot parents (right .ledger) able;
+        counted = booked-counted;
+        summed = booked-summed;
+        led = booked-led w name slot parents (right .ledger) able (right .led);
+        polled = polls-booked w name slot parents ∙ right .polled;
+        below = within-more (older .more) (right .below);
+      }
+
+-- ---- a taken poll
+
+module _ (w : List ℕ) (h : History) (right : Right w h) (i : ℕ) (votes : List ℕ) (able : Pollable w i) where
+  abbrev v : List ℕ
+  v = polled w i votes
+
+  abbrev same : Grown w v
+  same = polled-grown w i votes (right .ledger) able
+
+  success-confidence : isSuccess w votes ≡ true → (j : ℕ) → j < bookings w → confidenceOf v j ≡ confidenceOf w j + bit (isMember (ancestry w i) j)
+  unfolding polled
+  success-confidence e j l = rw e (confidence-succeeded w i j (right .ledger) l (able .below))
+
+  failure-confidence : isSuccess w votes ≡ false → (j : ℕ) → j < bookings w → confidenceOf v j ≡ confidenceOf w j
+  unfolding polled
+  failure-confidence e j l = rw e (confidence-failed w i j)
+
+  -- the earlier polls are counted as before
+  earlier : (j : ℕ) → j < bookings w → Counted v j (h .successes) (confidenceOf w j)
+  earlier j l = counted-grown w v (right .ledger) same (right .below) (right .counted j l)
+
+  -- a successful poll counts where its booking reaches
+  counted-one : (b : Bool) (j : ℕ) → isMember (ancestry w i) j ≡ b → j < bookings w → Counted v j (i ∷ h .successes) (confidenceOf w j + bit b)
+  counted-one true j m l = rw add-one (counts (reaches-grown w v (right .ledger) same i j (able .below) .1 (marks→Reaches w i j m)) (earlier j l))
+  counted-one false j m l =
+      rw add-zero
+      (passes
+      (λ r. absurd (not-both (Reaches→marks w (right .ledger .sound) i (able .below) j (reaches-grown w v (right .ledger) same i j (able .below) .0 r)) m))
+      (earlier j l))
+    where
+      not-both : isMember (ancestry w i) j ≡ true → isMember (ancestry w i) j ≡ false → ⊥
+      not-both p q = let z : _≡_ {A = ℕ} 0 1 = ap bit (sym q ∙ p) in omega arith
+
+  polled-counted : (b : Bool) → isSuccess w votes ≡ b → (j : ℕ) → j < bookings v → Counted v j (withPoll b i h .successes) (confidenceOf v j)
+  polled-counted true e j l =
+      let m : j < bookings w = omega (arith, bookings-polled w i votes (right .ledger) able) in
+      rw (success-confidence e j m) (counted-one (isMember (ancestry w i) j) j refl m)
+  polled-counted false e j l =
+      let m : j < bookings w = omega (arith, bookings-polled w i votes (right .ledger) able) in
+      rw (failure-confidence e j m) (earlier j m)
+
+  polled-summed : (b : Bool) → isSuccess w votes ≡ b → total (confidenceOf v) (bookings v) ≡ sizes v (withPoll b i h .successes)
+  unfolding sizes sizeOf
+  polled-summed true e =
+      ap (total (confidenceOf v)) (bookings-polled w i votes (right .ledger) able)
+      ∙ total-same (confidenceOf v) (λ j. confidenceOf w j + bit (isMember (ancestry w i) j)) (bookings w) (success-confidence e)
+      ∙ total-plus (confidenceOf w) (λ j. bit (isMember (ancestry w i) j)) (bookings w)
+      ∙ add-comm (total (confidenceOf w) (bookings w)) (count (isMember (ancestry w i)) (bookings w))
+      ∙ ap₂ _+_ (sym (size-grown w v (right .ledger) same i (able .below))) (right .summed ∙ sym (sizes-grown w v (right .ledger) same (right .below)))
+  polled-summed false e =
+      ap (total (confidenceOf v)) (bookings-polled w i votes (right .ledger) able)
+      ∙ total-same (confidenceOf v) (confidenceOf w) (bookings w) (failure-confidence e)
+      ∙ right .summed ∙ sym (sizes-grown w v (right .ledger) same (right .below))
+
+  polled-below : (b : Bool) → Within (bookings v) (withPoll b i h .successes)
+  polled-below true = within {i = i} (omega (arith, able .below, same .more)) (within-more (same .more) (right .below))
+  polled-below false = within-more (same .more) (right .below)
+
+  polled-right : Right v (withPoll (isSuccess w votes) i h)
+  polled-right =
+      record {
+        ledger = polled-ledger w i votes (right .ledger) able;
+        counted = polled-counted (isSuccess w votes) refl;
+        summed = polled-summed (isSuccess w votes) refl;
+        led = polled-led w i votes (right .ledger) able (right .led);
+        polled = polls-polled w i votes (right .ledger) able ∙ ap (λ p. p + 1) (right .polled);
+        below = polled-below (isSuccess w votes);
+      }
+
+-- ---- every call
+
+-- by whether the call was taken: its words, and the history that it leaves
+by-taken : (P : List ℕ → History → Type 0) (words : List ℕ) (later h : History) (taken : Bool)
+    → (taken ≡ true → P words later) → (taken ≡ false → P words h) → P words (cond taken later h)
+by-taken P words later h true t f = t refl
+by-taken P words later h false t f = f refl
+
+right-words : {w u : List ℕ} {h : History} → u ≡ w → Right w h → Right u h
+right-words {h = h} e right = subst (λ x. Right x h) (sym e) right
+
+opening-right : (w : List ℕ) (s : Setting) → isTaken (openCall w s .answer) ≡ true → Right (openCall w s .words) fresh
+opening-right w s t = let o = open-taken w s t in right-words (o .2) (opened-right s (opened-ledger s (o .1)))
+
+book-right : (w : List ℕ) (h : History) (name slot : ℕ) (parents : List ℕ) (taken : Bool) → isTaken (bookCall w name slot parents .answer) ≡ taken
+    → Right w h → Right (bookCall w name slot parents .words) h
+book-right w h name slot parents true t right = let o = book-taken w name slot parents t in right-words (o .2) (booked-right w h right name slot parents (o .1))
+book-right w h name slot parents false t right = right-words (book-kept w name slot parents t) right
+
+pub step-right : (c : Call) (w : List ℕ) (h : History) → Right w h → Right (outcomeOf c w .words) (historyAfter c w h)
+unfolding outcomeOf historyAfter
+step-right (Open s) w h right =
+    by-taken Right (openCall w s .words) fresh h (isTaken (openCall w s .answer)) (opening-right w s) (λ f. right-words (open-kept w s f) right)
+step-right (Book name slot parents) w h right = book-right w h name slot parents (isTaken (bookCall w name slot parents .answer)) refl right
+step-right (Poll name votes) w h right =
+    by-taken Right (pollCall w name votes .words) (withPoll (isSuccess w votes) (numberOf (lookUp w name)) h) h (isTaken (pollCall w name votes .answer))
+    (λ t. let o = poll-taken w name votes t in right-words (o .2) (polled-right w h right (numberOf (lookUp w name)) votes (o .1)))
+    (λ f. right-words (poll-kept w name votes f) right)
+step-right (Query name) w h right = right
+step-right (Accepted name) w h right = right
+step-right (Lead name) w h right = right
+step-right (Confidence name) w h right = right
+step-right (Size name) w h right = right
+
+run-right : (calls : List Call) (t : Station) → Right (t .words) (t .history) → Right (run calls t .words) (run calls t .history)
+unfolding run
+run-right [] t right = right
+run-right (c ∷ calls) t right = run-right calls (step c t) (step-right c (t .words) (t .history) right)
+
+after-right : (o : Opening) (calls : List Call) → Right (after o calls .words) (after o calls .history)
+after-right o calls =
+    run-right calls (record { words = openCall (o .words) (o .setting) .words; history = fresh }) (opening-right (o .words) (o .setting) (o .taken))
+
+-- ---- the promises of demand 3
+
+pub confidence-is-counted : ConfidenceIsCounted
+unfolding ConfidenceIsCounted
+confidence-is-counted o calls = after-right o calls .counted
+
+pub total-is-summed : TotalIsSummed
+unfolding TotalIsSummed
+total-is-summed o calls = after-right o calls .summed
+
+pub preferred-is-most : PreferredIsMost
+unfolding PreferredIsMost
+preferred-is-most o calls = after-right o calls .led
+
+pub polls-are-counted : PollsAreCounted
+unfolding PollsAreCounted
+polls-are-counted o calls = after-right o calls .polled
+
+pub run-sound : RunSound
+unfolding RunSound
+run-sound o calls = after-right o calls .ledger
