@@ -55,12 +55,25 @@ enum-told : tie.Need-enum-told Inv-loop μ-loop
 enum-told c = search needs
 
 -- src/book.rt:25:13
-returns : tie.Need-returns Inv-loop μ-loop
-returns c = ?
+unknown : tie.Need-returns Inv-loop μ-loop
+unfolding hasUnknown
+unknown c =
+    let F = c .before .before in
+    let L = F .before .before .before in
+    let S = L .before .before .before in
+    let e : firstUnknown (S .args .w .now) (S .args .parents .now) ≡ L .loop .a = search-hit _ _ _ (L .loop .inv .1) (omega arith) (ap isAbsent (sym (F .find .ensures) ∙ c .enum-told .given .1)) in
+    record {
+      answer = rw (e, lt-ltb (L .loop .a) (length (S .args .parents .now)) (omega arith));
+      after = rw e (L .loop .inv .2);
+    }
 
 -- src/book.rt:27:22
 cast-numbers : tie.Need-cast-numbers Inv-loop μ-loop
-cast-numbers c = ?
+cast-numbers c =
+    let F = c .before .before .before in
+    let L = F .before .before .before in
+    let S = L .before .before .before in
+    omega (arith, S .pre .0 .sound .bookingsMost, found-below (S .args .w .now) (getD (S .args .parents .now) (L .loop .a) 0) (c .before .p .given .0 .0) (sym (F .find .ensures) ∙ c .before .p .given .1))
 
 -- src/book.rt:27:9
 mul-numbers : tie.Need-mul-numbers Inv-loop μ-loop
@@ -80,11 +93,23 @@ loop-less c = search needs
 
 -- src/book.rt:23:5
 loop-again : tie.Need-loop-again Inv-loop μ-loop
-loop-again c = ?
+loop-again c =
+    let F = c .before .before .before in
+    let L = F .before .before .before .loop in
+    let e = sym (F .find .ensures) ∙ c .before .p .given .1 in
+    (omega arith, search-miss _ _ _ (L .inv .1) (omega arith) (ap isAbsent e), rw (upTo-more, ← L .inv .2, e))
 
 -- src/book.rt:19:1
-returns-2 : tie.Need-returns-2 Inv-loop μ-loop
-returns-2 c = ?
+known : tie.Need-returns-2 Inv-loop μ-loop
+unfolding hasUnknown
+known c =
+    let L = c .before in
+    let S = L .before .before .before in
+    let e : firstUnknown (S .args .w .now) (S .args .parents .now) ≡ L .loop .a = search-over _ _ _ (L .loop .inv .1) (omega arith) in
+    record {
+      answer = rw (e, le-ltb (L .loop .a) (length (S .args .parents .now)) (omega arith));
+      after = rw e (L .loop .inv .2);
+    }
 
 pub look-parents-spec : {M : Type 1} → statement M
 look-parents-spec =
@@ -98,11 +123,11 @@ look-parents-spec =
     find-requires
     enum-known-p
     enum-told
-    returns
+    unknown
     cast-numbers
     mul-numbers
     element-write-numbers
     add-a
     loop-less
     loop-again
-    returns-2)
+    known)
