@@ -2,3 +2,4 @@
 pub mod Parents
 pub mod Polled
 pub mod States
+pub mod Booked

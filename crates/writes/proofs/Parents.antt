@@ -39,6 +39,6 @@ pub looked-taken : (b : Bool) {r : Answer} {v : _} → r ≡ cond b (Refused Unk
 looked-taken true e f = let z : _≡_ {A = ℕ} 0 1 = cc in absurd (omega arith)
 looked-taken false e f = refl
 
-pub looked-refused : (b : Bool) {r : Answer} {x : Refusal} → r ≡ cond b (Refused UnknownParent) done → r ≡ Refused x → b ≡ true
-looked-refused true e f = refl
+pub looked-refused : (b : Bool) {r : Answer} {x : Refusal} → r ≡ cond b (Refused UnknownParent) done → r ≡ Refused x → (b ≡ true) × (r ≡ Refused UnknownParent)
+looked-refused true e f = (refl, e)
 looked-refused false e f = let z : _≡_ {A = ℕ} 0 1 = cc in absurd (omega arith)

@@ -11,8 +11,8 @@ use Rattle.rules.specs.declared.answer.Answer.{Answer}
 use Rattle.rules.specs.declared.answer.Answer.the-variants.{Refused}
 use Rattle.rules.specs.declared.answer.Refusal.the-variants.{UnknownParent, ParentTwice, Full}
 use Rattle.rules.specs.Layout.{bookings, mostBookings}
-use Rattle.rules.specs.Answers.{done}
-use Rattle.rules.specs.Book.{isAbsent, numberOf, parentFound, hasUnknown, hasTwice}
+use Rattle.rules.specs.Answers.{Outcome, leaves, done}
+use Rattle.rules.specs.Book.{isAbsent, numberOf, parentFound, hasUnknown, hasTwice, booked}
 
 -- the first parent whose name isn't booked; how many parents there are where each is
 abbrev pub firstUnknown : List ℕ → List ℕ → ℕ
@@ -34,3 +34,7 @@ parentsAnswer w parents =
     (cond (hasTwice parents) (Refused ParentTwice)
     (cond (eqb (bookings w) mostBookings) (Refused Full)
     done))
+
+-- what they and the booking leave
+unfoldable pub parentsCall : List ℕ → ℕ → ℕ → List ℕ → Outcome
+parentsCall w name slot parents = leaves (parentsAnswer w parents) w (booked w name slot parents)

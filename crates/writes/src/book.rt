@@ -9,11 +9,10 @@ ghost use mathlib.Core.Path.{_≡_};
 ghost use Prim.Native.Nat.{_<_, _≤_};
 ghost use lib.ListN.{length};
 ghost use Rattle.rules.specs.Layout.{slots, mostParents};
-ghost use Rattle.rules.specs.Answers.{outcome, leaves};
+ghost use Rattle.rules.specs.Answers.{outcome};
 ghost use Rattle.rules.specs.Sound.{Ledger};
-ghost use Rattle.rules.specs.Book.{booked};
 ghost use Rattle.rules.specs.Calls.{bookCall};
-ghost use Rattle.writes.specs.Parents.{Looked, parentsAnswer};
+ghost use Rattle.writes.specs.Parents.{Looked, parentsCall};
 
 // Each parent's name is looked up in the order given, and its number stored in its place; one that is not found ends the call.
 fn look_parents(w: &[u16], parents: &[u64], numbers: &mut [u16; layout::MOST_PARENTS]) -> Answer
@@ -32,7 +31,7 @@ fn look_parents(w: &[u16], parents: &[u64], numbers: &mut [u16; layout::MOST_PAR
 // Refusals 7, 8 and 9, and the booking.
 fn book_parents(w: &mut [u16], name: u64, slot: u16, parents: &[u64]) -> Answer
     requires { ⌜ Ledger (now w) × (slot < slots) × (length (now parents) ≤ mostParents) ⌝ }
-    ensures { λ r. ⌜ outcome r (now (w .exit)) ≡ leaves (parentsAnswer (now (w .entry)) (now (parents .entry))) (now (w .entry)) (booked (now (w .entry)) name slot (now (parents .entry))) ⌝ }
+    ensures { λ r. ⌜ outcome r (now (w .exit)) ≡ parentsCall (now (w .entry)) name slot (now (parents .entry)) ⌝ }
 {
     let mut numbers = [layout::NONE; layout::MOST_PARENTS];
     let looked = look_parents(w, parents, &mut numbers);
