@@ -1,5 +1,5 @@
 -- A booking on a ledger by its cases, in the order of its refusals: each case is what the law's call gives.
-use mathlib.Core.Path.{_≡_, refl}
+use mathlib.Core.Path.{_≡_}
 use mathlib.Core.Bool.{Bool, true, false, _||_, true≢false}
 use mathlib.Core.List.{List}
 use mathlib.Core.Logic.{_≢_}
@@ -10,13 +10,12 @@ use borrow.Author.Tests.{eq-eqb, ne-eqb, leb-false, ltb-false}
 use Rattle.rules.specs.declared.answer.Found.the-variants.{At, Absent}
 use Rattle.rules.specs.declared.answer.Answer.the-variants.{Refused}
 use Rattle.rules.specs.declared.answer.Refusal.the-variants.{NameTaken, BadSlot, BadParents, UnknownParent, ParentTwice, Full}
-use Rattle.rules.specs.Layout.{size, slots, mostParents, mostBookings, bookings}
+use Rattle.rules.specs.Layout.{slots, mostParents, mostBookings, bookings}
 use Rattle.rules.specs.Answers.{outcome, done}
-use Rattle.rules.specs.IsSound.{isSound}
 use Rattle.rules.specs.Sound.{Ledger}
 use Rattle.rules.specs.Book.{lookUp, hasUnknown, hasTwice, booked}
 use Rattle.rules.specs.Calls.{bookCall}
-use Rattle.rules.proofs.Sound.{Sound→isSound}
+use Rattle.rules.proofs.Tested.{tested-known}
 use Rattle.writes.specs.Parents.{parentsCall}
 
 module _ (w : List ℕ) (name slot : ℕ) (parents : List ℕ) where
@@ -43,29 +42,23 @@ module _ (w : List ℕ) (name slot : ℕ) (parents : List ℕ) where
   -- ---- 4, 5, 6
 
   module _ (ledger : Ledger w) where
-    whole : eqb (length w) size ≡ true
-    whole = eq-eqb (length w) size (ledger .whole)
-
-    sound : isSound w ≡ true
-    sound = Sound→isSound w (ledger .sound)
-
     pub book-name : {i : ℕ} → lookUp w name ≡ At i → outcome (Refused NameTaken) w ≡ bookCall w name slot parents
     unfolding bookCall
-    book-name f = rw (whole, sound, f)
+    book-name f = rw (tested-known, f)
 
     module _ (absent : lookUp w name ≡ Absent) where
       pub book-slot : (eqb slot 0 || leb slots slot) ≡ true → outcome (Refused BadSlot) w ≡ bookCall w name slot parents
       unfolding bookCall
-      book-slot s = rw (whole, sound, absent, s)
+      book-slot s = rw (tested-known, absent, s)
 
       module _ (fits : (eqb slot 0 || leb slots slot) ≡ false) where
         pub book-count : (eqb (length parents) 0 || ltb mostParents (length parents)) ≡ true → outcome (Refused BadParents) w ≡ bookCall w name slot parents
         unfolding bookCall
-        book-count p = rw (whole, sound, absent, fits, p)
+        book-count p = rw (tested-known, absent, fits, p)
 
         pub book-rest : (eqb (length parents) 0 || ltb mostParents (length parents)) ≡ false → parentsCall w name slot parents ≡ bookCall w name slot parents
         unfolding bookCall parentsCall
-        book-rest p = rw (whole, sound, absent, fits, p)
+        book-rest p = rw (tested-known, absent, fits, p)
 
 -- ---- what the tests of slot and list leave
 

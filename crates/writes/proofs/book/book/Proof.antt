@@ -1,24 +1,15 @@
 -- Each return is a case of the law's call: refusals 4, 5 and 6, or what is left for the parents.
-use mathlib.Core.Path.{_≡_, refl, sym, ap, _∙_}
+use mathlib.Core.Path.{_≡_, sym, _∙_}
 use mathlib.Core.Bool.{false, _||_}
-use mathlib.Core.List.{List}
-use Prim.Native.Nat.{ℕ}
-use native.Mathlib.Omega.{arith}
 use lib.ListN.{length}
-use lib.Dec.{eqb, leb, ltb}
+use lib.Dec.{eqb, leb}
 use borrow.Author.Needs.{needs}
-use borrow.Author.Tests.{leb-false, ltb-false}
 use Rattle.rules.specs.declared.answer.Found.the-variants.{Absent}
-use Rattle.rules.specs.Layout.{slots, mostParents}
+use Rattle.rules.specs.Layout.{slots}
 use Rattle.rules.specs.Book.{lookUp}
 use Rattle.writes.proofs.Booked.{book-name, book-slot, book-count, book-rest, slot-lt, count-most}
 use Rattle.writes.proofs.book.book.Statement.{statement}
 use Rattle.writes.proofs.book.book.Tie as tie
-use Rattle.writes.proofs.book.book.Reads as reads
-use Rattle.writes.proofs.book.book.Lts as lts
-use Rattle.readings.proofs.booking.find.Reads as find-reads
-use Rattle.words.proofs.wide.Reads as wide-reads
-use Rattle.writes.proofs.book.book_parents.Reads as book-parents-reads
 
 -- ---- where the name is new
 
@@ -36,65 +27,53 @@ slot-fits B = rw (B .before .wide .ensures .0) at (B .if1 .left)
 
 -- ---- the needs
 
--- src/book.rt:57:25
 find-requires : tie.Need-find-requires
 find-requires c κs = search needs
 
 enum-told : tie.Need-enum-told
 enum-told c = search needs
 
--- src/book.rt:58:32
 enum-told-2 : tie.Need-enum-told-2
 enum-told-2 c = search needs
 
--- src/book.rt:58:9
 same-length : tie.Need-same-length
 same-length c = search needs
 
--- src/book.rt:58:9
 name-taken : tie.Need-returns
 name-taken c =
     let F = c .before .before in
     let S = F .before .before .before .before in
     book-name _ _ _ _ (S .pre) (sym (F .find .ensures) ∙ c .enum-told2 .given .1)
 
--- src/book.rt:60:40
 wide-requires : tie.Need-wide-requires
 wide-requires c κs = search needs
 
--- src/book.rt:61:9
 same-length-2 : tie.Need-same-length-2
 same-length-2 c = search needs
 
--- src/book.rt:61:9
 bad-slot : tie.Need-returns-2
 bad-slot c =
     let A = c .before .before in
     book-slot _ _ _ _ (start A .pre) (absent A) (rw (c .before .wide .ensures .0) at (c .if1 .taken))
 
--- src/book.rt:65:9
 same-length-3 : tie.Need-same-length-3
 same-length-3 c = search needs
 
--- src/book.rt:65:9
 bad-parents : tie.Need-returns-3
 bad-parents c =
     let B = c .before in
     let A = B .before .before in
     book-count _ _ _ _ (start A .pre) (absent A) (slot-fits B) (c .if2 .taken)
 
--- src/book.rt:67:5
 book-parents-requires : tie.Need-book-parents-requires
 book-parents-requires c κs =
     let B = c .before .before in
     let A = B .before .before in
     (start A .pre, slot-lt (start A .args .slot) (slot-fits B), count-most (length (start A .args .parents .now)) (c .before .if2 .left))
 
--- src/book.rt:53:1
 same-length-4 : tie.Need-same-length-4
 same-length-4 c = search needs
 
--- src/book.rt:53:1
 rest : tie.Need-returns-4
 rest c =
     let C = c .before .before .before .before in

@@ -1,23 +1,16 @@
 -- Each return is a case of the refusals 7, 8 and 9. Where no parent is unknown, the numbers that were looked up are the booking's.
-use mathlib.Core.Path.{_≡_, refl, sym, ap, _∙_}
+use mathlib.Core.Path.{_≡_, sym, _∙_}
 use mathlib.Core.Bool.{false}
 use mathlib.Core.List.{List}
 use Prim.Native.Nat.{ℕ}
 use borrow.Author.Needs.{needs}
-use Rattle.rules.specs.Book.{hasUnknown, hasTwice, booked}
-use Rattle.booking.specs.Numbered.{parentNumbers, bookedWith}
+use Rattle.rules.specs.Book.{hasUnknown, hasTwice}
+use Rattle.booking.specs.Numbered.{parentNumbers}
 use Rattle.booking.proofs.Numbers.{bookedWith-numbers}
-use Rattle.writes.specs.Parents.{withNumbers}
 use Rattle.writes.proofs.Parents.{withNumbers-all, firstUnknown-none, looked-taken, looked-refused}
 use Rattle.writes.proofs.Booked.{parents-unknown, parents-twice, parents-full, parents-taken}
 use Rattle.writes.proofs.book.book_parents.Statement.{statement}
 use Rattle.writes.proofs.book.book_parents.Tie as tie
-use Rattle.writes.proofs.book.book_parents.Reads as reads
-use Rattle.writes.proofs.book.book_parents.Lts as lts
-use Rattle.booking.proofs.naming.has_twice.Reads as has-twice-reads
-use Rattle.booking.proofs.writing.write_booking.Reads as write-booking-reads
-use Rattle.readings.proofs.booking.how_many.Reads as how-many-reads
-use Rattle.writes.proofs.book.look_parents.Reads as look-parents-reads
 
 -- ---- where each parent is known
 
@@ -44,67 +37,53 @@ once J = sym (J .before .has-twice .ensures) ∙ J .if1 .left
 
 -- ---- the needs
 
--- src/book.rt:38:9
 look-parents-requires : tie.Need-look-parents-requires
 look-parents-requires c κs = search needs
 
 enum-told : tie.Need-enum-told
 enum-told c = search needs
 
--- src/book.rt:40:9
 enum-told-2 : tie.Need-enum-told-2
 enum-told-2 c = search needs
 
--- src/book.rt:40:9
 same-length : tie.Need-same-length
 same-length c = search needs
 
--- src/book.rt:40:9
 unknown : tie.Need-returns
 unknown c =
     let L = c .before .before in
-    let S = L .before .before .before .before .before in
     let u = looked-refused _ (L .look-parents .ensures .answer) (c .enum-told2 .given .1) in
     rw (u .1) (parents-unknown _ _ _ _ (u .0))
 
--- src/book.rt:42:8
 has-twice-requires : tie.Need-has-twice-requires
 has-twice-requires c κs = search needs
 
--- src/book.rt:43:9
 same-length-2 : tie.Need-same-length-2
 same-length-2 c = search needs
 
--- src/book.rt:43:9
 named-twice : tie.Need-returns-2
 named-twice c =
     let K = c .before .before in
     parents-twice _ _ _ _ (known K) (sym (c .before .has-twice .ensures) ∙ c .if1 .taken)
 
--- src/book.rt:45:8
 how-many-requires : tie.Need-how-many-requires
 how-many-requires c κs = search needs
 
--- src/book.rt:46:9
 same-length-3 : tie.Need-same-length-3
 same-length-3 c = search needs
 
--- src/book.rt:46:9
 full : tie.Need-returns-3
 full c =
     let J = c .before .before .before in
     let K = J .before .before in
     parents-full _ _ _ _ (known K) (once J) (sym (c .before .how-many .ensures) ∙ c .if2 .taken)
 
--- src/book.rt:48:5
 write-booking-requires : tie.Need-write-booking-requires
 write-booking-requires c κs = search needs
 
--- src/book.rt:33:1
 same-length-4 : tie.Need-same-length-4
 same-length-4 c = search needs
 
--- src/book.rt:33:1
 taken : tie.Need-returns-4
 taken c =
     let M = c .before .before .before .before .before in

@@ -1,24 +1,19 @@
 -- The parents below a are known, and their numbers stand in their places.
 use Prim.Native.Nat.{ℕ, _≤_, _-_}
-use mathlib.Core.Path.{_≡_, refl, sym, ap, _∙_}
+use mathlib.Core.Path.{_≡_, sym, ap, _∙_}
 use mathlib.Core.Bool.{Bool}
 use mathlib.Core.List.{List}
-use lib.ListN.{length, getD, length-set}
+use lib.ListN.{length, getD}
 use native.Mathlib.Omega.{arith}
 use borrow.Author.Needs.{needs}
 use borrow.Author.Tests.{lt-ltb, le-ltb}
-use Rattle.loops.specs.Search.{first}
 use Rattle.loops.proofs.Turns.{upTo-zero, upTo-more}
 use Rattle.loops.proofs.Search.{Searched, search-start, search-hit, search-miss, search-over}
-use Rattle.rules.specs.declared.answer.Found.the-variants.{At}
-use Rattle.rules.specs.Book.{lookUp, parentFound, isAbsent, hasUnknown}
+use Rattle.rules.specs.Book.{parentFound, isAbsent, hasUnknown}
 use Rattle.rules.proofs.Lookup.{found-below}
 use Rattle.writes.specs.Parents.{firstUnknown, withNumbers}
 use Rattle.writes.proofs.book.look_parents.Statement.{statement}
 use Rattle.writes.proofs.book.look_parents.Tie as tie
-use Rattle.writes.proofs.book.look_parents.Reads as reads
-use Rattle.writes.proofs.book.look_parents.Lts as lts
-use Rattle.readings.proofs.booking.find.Reads as find-reads
 
 abbrev isUnknown : List ℕ → List ℕ → ℕ → Bool
 isUnknown w parents a = isAbsent (parentFound w parents a)
@@ -30,31 +25,24 @@ Inv-loop w parents numbers₀ a₀ a-end numbers a =
 abbrev μ-loop : tie.MeasureT-loop
 μ-loop w parents numbers₀ a₀ a-end numbers a = length parents - a
 
--- src/book.rt:23:5
 loop-holds : tie.Need-loop-holds Inv-loop μ-loop
 loop-holds c = (search needs, search-start _ _, sym (upTo-zero _ _))
 
--- src/book.rt:24:55
 mul-find : tie.Need-mul-find Inv-loop μ-loop
 mul-find c = search needs
 
--- src/book.rt:24:55
 shared-slice-read-find : tie.Need-shared-slice-read-find Inv-loop μ-loop
 shared-slice-read-find c = search needs
 
--- src/book.rt:24:28
 find-requires : tie.Need-find-requires Inv-loop μ-loop
 find-requires c κs = search needs
 
--- src/book.rt:24:23
 enum-known-p : tie.Need-enum-known-p Inv-loop μ-loop
 enum-known-p c = search needs
 
--- src/book.rt:25:36
 enum-told : tie.Need-enum-told Inv-loop μ-loop
 enum-told c = search needs
 
--- src/book.rt:25:13
 unknown : tie.Need-returns Inv-loop μ-loop
 unfolding hasUnknown
 unknown c =
@@ -67,7 +55,6 @@ unknown c =
       after = rw e (L .loop .inv .2);
     }
 
--- src/book.rt:27:22
 cast-numbers : tie.Need-cast-numbers Inv-loop μ-loop
 cast-numbers c =
     let F = c .before .before .before in
@@ -75,23 +62,18 @@ cast-numbers c =
     let S = L .before .before .before in
     omega (arith, S .pre .0 .sound .bookingsMost, found-below (S .args .w .now) (getD (S .args .parents .now) (L .loop .a) 0) (c .before .p .given .0 .0) (sym (F .find .ensures) ∙ c .before .p .given .1))
 
--- src/book.rt:27:9
 mul-numbers : tie.Need-mul-numbers Inv-loop μ-loop
 mul-numbers c = search needs
 
--- src/book.rt:27:9
 element-write-numbers : tie.Need-element-write-numbers Inv-loop μ-loop
 element-write-numbers c = search needs
 
--- src/book.rt:23:9
 add-a : tie.Need-add-a Inv-loop μ-loop
 add-a c = search needs
 
--- src/book.rt:23:5
 loop-less : tie.Need-loop-less Inv-loop μ-loop
 loop-less c = search needs
 
--- src/book.rt:23:5
 loop-again : tie.Need-loop-again Inv-loop μ-loop
 loop-again c =
     let F = c .before .before .before in
@@ -99,7 +81,6 @@ loop-again c =
     let e = sym (F .find .ensures) ∙ c .before .p .given .1 in
     (omega arith, search-miss _ _ _ (L .inv .1) (omega arith) (ap isAbsent e), rw (upTo-more, ← L .inv .2, e))
 
--- src/book.rt:19:1
 known : tie.Need-returns-2 Inv-loop μ-loop
 unfolding hasUnknown
 known c =

@@ -1,7 +1,6 @@
 -- Each return is a case of the law's call. What was learnt on the way is stated at its place: the booking found, that it waits,
 -- that there are k votes, that none is refused.
 use mathlib.Core.Path.{_≡_, sym, _∙_}
-use mathlib.Core.Bool.{false}
 use mathlib.Core.List.{List}
 use Prim.Native.Nat.{ℕ, _<_}
 use native.Mathlib.Omega.{arith}
@@ -9,8 +8,6 @@ use lib.ListN.{length}
 use borrow.Author.Needs.{needs}
 use Rattle.rules.specs.declared.answer.Found.the-variants.{At}
 use Rattle.rules.specs.Layout.{bookings, settingIn, stateOf}
-use Rattle.rules.specs.Answers.{outcome, done}
-use Rattle.rules.specs.Votes.{hasRefusedVote}
 use Rattle.rules.specs.Book.{lookUp}
 use Rattle.rules.proofs.Lookup.{found-below}
 use Rattle.writes.proofs.Polled.{poll-absent, poll-state, poll-length, poll-vote, poll-taken}
