@@ -1,5 +1,5 @@
 // A completed poll on a ledger: the first refusal that applies is given, or the poll is written.
-use polling::votes;
+use votes;
 use polling::writing;
 use rules::answer::Answer;
 use rules::answer::Found;
