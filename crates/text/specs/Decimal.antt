@@ -1,0 +1,26 @@
+-- Numbers as decimal digits: no leading zero but for 0 itself, and a minus sign before a number below zero.
+use Prim.Native.Nat.{ℕ, zero, suc, _+_, _/_, _%_}
+use mathlib.Core.Bool.{true, false}
+use mathlib.Core.List.{List, [], _∷_, _++_}
+use lib.IntN.{ℤ, pos, negsuc}
+use lib.Dec.{ltb}
+
+abbrev pub minus : ℕ
+minus = 45
+
+-- the byte of a digit
+abbrev pub digit : ℕ → ℕ
+digit d = 48 + d
+
+-- one digit, or the digits of a tenth and then the last; f bounds how many follow
+unfoldable pub digitsOf : ℕ → ℕ → List ℕ
+digitsOf zero n = digit n ∷ []
+digitsOf (suc f) n = elim (ltb n 10) [ true ↦ digit n ∷ [] | false ↦ digitsOf f (n / 10) ++ (digit (n % 10) ∷ []) ]
+
+-- n bounds how many digits it has
+unfoldable pub decimal : ℕ → List ℕ
+decimal n = digitsOf n n
+
+unfoldable pub signed : ℤ → List ℕ
+signed (pos n) = decimal n
+signed (negsuc n) = minus ∷ decimal (suc n)

@@ -1,0 +1,3 @@
+-- What the text program reads and prints.
+pub mod Put
+pub mod Decimal
