@@ -2,7 +2,7 @@
 use Prim.Native.Nat.{ℕ, zero, suc, _+_, _/_, _%_}
 use mathlib.Core.Bool.{true, false}
 use mathlib.Core.List.{List, [], _∷_, _++_}
-use lib.IntN.{ℤ, pos, negsuc}
+use lib.IntN.{ℤ, pos, negsuc, natAbs}
 use lib.Dec.{ltb}
 
 abbrev pub minus : ℕ
@@ -21,6 +21,10 @@ digitsOf (suc f) n = elim (ltb n 10) [ true ↦ digit n ∷ [] | false ↦ digit
 unfoldable pub decimal : ℕ → List ℕ
 decimal n = digitsOf n n
 
+abbrev pub sign : ℤ → List ℕ
+sign (pos n) = []
+sign (negsuc n) = minus ∷ []
+
+-- the sign, and then the number without it
 unfoldable pub signed : ℤ → List ℕ
-signed (pos n) = decimal n
-signed (negsuc n) = minus ∷ decimal (suc n)
+signed z = sign z ++ decimal (natAbs z)

@@ -1,10 +1,10 @@
 // Writers into a lent buffer: bytes from an offset on, and the offset after them. Every other byte stays.
 ghost use mathlib.Core.Path.{_≡_};
 ghost use mathlib.Core.List.{[], _∷_};
-ghost use lib.ListN.{length};
+ghost use lib.IntN.{natAbs};
 ghost use Prim.Native.Nat.{_+_, _%_};
 ghost use Rattle.text.specs.Put.{Put, Room};
-ghost use Rattle.text.specs.Decimal.{digit, decimal};
+ghost use Rattle.text.specs.Decimal.{digit, decimal, sign, signed};
 
 pub fn put_byte(out: &mut [u8], at: usize, byte: u8) -> usize
     requires { ⌜ Room (now out) at (byte ∷ []) ⌝ }
@@ -43,4 +43,32 @@ pub fn put_number(out: &mut [u8], at: usize, v: u64) -> usize
     }
     let next = put_number(out, at, v / 10);
     put_last_digit(out, next, v)
+}
+
+// A number without its sign. The least of all has no positive counterpart, so one is added after the sign is gone.
+fn magnitude(v: i64) -> u64
+    ensures { λ r. ⌜ r ≡ natAbs v ⌝ }
+{
+    if v < 0 { (-1 - v) as u64 + 1 } else { v as u64 }
+}
+
+// A minus sign where the number is below zero.
+fn put_sign(out: &mut [u8], at: usize, v: i64) -> usize
+    requires { ⌜ Room (now out) at (sign v) ⌝ }
+    ensures { λ r. ⌜ Put (now (out .entry)) at (sign v) r (now (out .exit)) ⌝ }
+{
+    if v < 0 {
+        out[at] = b'-';
+        at + 1
+    } else {
+        at
+    }
+}
+
+pub fn put_signed(out: &mut [u8], at: usize, v: i64) -> usize
+    requires { ⌜ Room (now out) at (signed v) ⌝ }
+    ensures { λ r. ⌜ Put (now (out .entry)) at (signed v) r (now (out .exit)) ⌝ }
+{
+    let next = put_sign(out, at, v);
+    put_number(out, next, magnitude(v))
 }

@@ -54,7 +54,7 @@ returns c =
     let e : L .j ≡ length (S .text .now) = omega arith in
     record {
       next = search needs;
-      after = sym (sets-over (L .out) (S .at + L .j) (S .text .now)) ∙ rw (← e) (L .inv .3)
+      after = sym (sets-over (L .out) (S .at + L .j) (S .text .now)) ∙ rw (← e) (L .inv .3);
     }
 
 pub put-text-spec : {M : Type 1} → statement M
