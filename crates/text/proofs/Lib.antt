@@ -2,3 +2,4 @@
 pub mod Puts
 pub mod Decimals
 pub mod Signs
+pub mod Rows

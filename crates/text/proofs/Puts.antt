@@ -13,6 +13,9 @@ pub sets-append : (out : List ℕ) (at : ℕ) (xs ys : List ℕ) → sets out at
 sets-append out at [] ys = rw add-zero
 sets-append out at (x ∷ xs) ys = rw (add-suc, ← suc-add) (sets-append (set out at x) (suc at) xs ys)
 
+pub put-none : (out : List ℕ) (at : ℕ) → Put out at [] at out
+put-none out at = record { next = sym (add-zero at); after = refl }
+
 pub put-then : {out out₁ out₂ : List ℕ} {at m n : ℕ} {xs ys : List ℕ} → Put out at xs m out₁ → Put out₁ m ys n out₂ → Put out at (xs ++ ys) n out₂
 put-then {out} {out₁} {out₂} {at} {m} {n} {xs} {ys} p q =
     record {

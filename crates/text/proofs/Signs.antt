@@ -7,6 +7,7 @@ use native.Mathlib.Numerals.{add-one}
 use native.Mathlib.Omega.{arith}
 use lib.Dec.{T}
 use lib.IntN.{ℤ, pos, negsuc, natAbs, _-ℤ_}
+use lib.ListN.{length}
 use lib.Signed.{mag, ltZ, nonNeg}
 use borrow.Author.Tests.{ltb-true, le-ltb}
 use Rattle.text.specs.Decimal.{minus, sign}
@@ -36,3 +37,7 @@ nonNeg-above (negsuc n) h = absurd (true≢false h)
 pub sign-above : (z : ℤ) → ltZ z (pos 0) ≡ false → sign z ≡ []
 sign-above (pos n) h = refl
 sign-above (negsuc n) h = absurd (true≢false h)
+
+pub sign-length : (z : ℤ) → length (sign z) ≤ 1
+sign-length (pos n) = omega arith
+sign-length (negsuc n) = omega arith
