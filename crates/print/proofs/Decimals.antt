@@ -9,7 +9,8 @@ use native.Mathlib.Omega.{arith}
 use lib.ListN.{length, length-append}
 use lib.Dec.{ltb}
 use borrow.Author.Tests.{lt-ltb, le-ltb}
-use Rattle.print.specs.Decimal.{digit, digitsOf, decimal}
+use Rattle.text.specs.Bytes.{digit}
+use Rattle.print.specs.Decimal.{digitsOf, decimal}
 
 digitsOf-low : (f n : ℕ) → n < 10 → digitsOf f n ≡ digit n ∷ []
 unfolding digitsOf

@@ -10,7 +10,8 @@ use lib.IntN.{ℤ, pos, negsuc, natAbs, _-ℤ_}
 use lib.ListN.{length}
 use lib.Signed.{mag, ltZ, nonNeg}
 use borrow.Author.Tests.{ltb-true, le-ltb}
-use Rattle.print.specs.Decimal.{minus, sign}
+use Rattle.text.specs.Bytes.{minus}
+use Rattle.print.specs.Decimal.{sign}
 
 -- below zero: what is left of it above -1, and one more than that is its size
 pub rest-below : (z : ℤ) → ltZ z (pos 0) ≡ true → negsuc 0 -ℤ z ≡ pos (mag z)

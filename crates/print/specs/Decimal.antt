@@ -4,13 +4,7 @@ use mathlib.Core.Bool.{true, false}
 use mathlib.Core.List.{List, [], _∷_, _++_}
 use lib.IntN.{ℤ, pos, negsuc, natAbs}
 use lib.Dec.{ltb}
-
-abbrev pub minus : ℕ
-minus = 45
-
--- the byte of a digit
-abbrev pub digit : ℕ → ℕ
-digit d = 48 + d
+use Rattle.text.specs.Bytes.{minus, digit}
 
 -- one digit, or the digits of a tenth and then the last; f bounds how many follow
 unfoldable pub digitsOf : ℕ → ℕ → List ℕ

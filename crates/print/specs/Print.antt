@@ -7,37 +7,23 @@ use Rattle.rules.specs.declared.answer.Refusal.{Refusal}
 use Rattle.rules.specs.declared.answer.Answer.{Answer}
 use Rattle.rules.specs.declared.answer.Answer.the-variants.{Taken, Refused}
 use Rattle.rules.specs.Answers.{refusalNumber}
+use Rattle.text.specs.Bytes.{bytes, lineFeed, space}
 use Rattle.print.specs.Decimal.{decimal, signed}
-
-abbrev pub lineFeed : ℕ
-lineFeed = 10
-
-abbrev pub space : ℕ
-space = 32
 
 -- ---- texts
 
--- "refused ", before the number
+-- before the number
 abbrev pub refusedText : List ℕ
-refusedText = 114 ∷ 101 ∷ 102 ∷ 117 ∷ 115 ∷ 101 ∷ 100 ∷ 32 ∷ []
+refusedText = bytes "refused "
 
--- "bad line"
 abbrev pub badLine : List ℕ
-badLine = 98 ∷ 97 ∷ 100 ∷ 32 ∷ 108 ∷ 105 ∷ 110 ∷ 101 ∷ lineFeed ∷ []
+badLine = bytes "bad line\n"
 
--- "input too long"
 abbrev pub tooLong : List ℕ
-tooLong = 105 ∷ 110 ∷ 112 ∷ 117 ∷ 116 ∷ 32 ∷ 116 ∷ 111 ∷ 111 ∷ 32 ∷ 108 ∷ 111 ∷ 110 ∷ 103 ∷ lineFeed ∷ []
+tooLong = bytes "input too long\n"
 
--- "number slot state confidence preferred accepted"
 abbrev pub listHeader : List ℕ
-listHeader =
-    110 ∷ 117 ∷ 109 ∷ 98 ∷ 101 ∷ 114 ∷ 32
-    ∷ 115 ∷ 108 ∷ 111 ∷ 116 ∷ 32
-    ∷ 115 ∷ 116 ∷ 97 ∷ 116 ∷ 101 ∷ 32
-    ∷ 99 ∷ 111 ∷ 110 ∷ 102 ∷ 105 ∷ 100 ∷ 101 ∷ 110 ∷ 99 ∷ 101 ∷ 32
-    ∷ 112 ∷ 114 ∷ 101 ∷ 102 ∷ 101 ∷ 114 ∷ 114 ∷ 101 ∷ 100 ∷ 32
-    ∷ 97 ∷ 99 ∷ 99 ∷ 101 ∷ 112 ∷ 116 ∷ 101 ∷ 100 ∷ lineFeed ∷ []
+listHeader = bytes "number slot state confidence preferred accepted\n"
 
 -- ---- answers
 

@@ -4,7 +4,8 @@ ghost use mathlib.Core.List.{[], _∷_};
 ghost use lib.IntN.{natAbs};
 ghost use Prim.Native.Nat.{_+_, _%_};
 ghost use Rattle.print.specs.Put.{Put, Room};
-ghost use Rattle.print.specs.Decimal.{digit, decimal, sign, signed};
+ghost use Rattle.text.specs.Bytes.{digit};
+ghost use Rattle.print.specs.Decimal.{decimal, sign, signed};
 
 pub(crate) fn put_byte(out: &mut [u8], at: usize, byte: u8) -> usize
     requires { ⌜ Room (now out) at (byte ∷ []) ⌝ }

@@ -8,7 +8,8 @@ use borrow.Author.Needs.{needs}
 use borrow.Fn.Kinds.{In}
 use borrow.Fn.PlainCycle.{Measures, is, falls, and}
 use Rattle.print.specs.Put.{Put}
-use Rattle.print.specs.Decimal.{digit, decimal}
+use Rattle.text.specs.Bytes.{digit}
+use Rattle.print.specs.Decimal.{decimal}
 use Rattle.print.proofs.Puts.{put-then}
 use Rattle.print.proofs.Decimals.{decimal-low, decimal-high, decimal-high-length}
 use Rattle.print.proofs.put.put_number.Reads as put-number

@@ -6,7 +6,8 @@ use lib.ListN.{length}
 use mir.Syntax.{w64}
 use mir.ValLaws.{toZ-ofZ}
 use borrow.Author.Needs.{needs}
-use Rattle.print.specs.Decimal.{minus, sign}
+use Rattle.text.specs.Bytes.{minus}
+use Rattle.print.specs.Decimal.{sign}
 use Rattle.print.proofs.Signs.{sign-below, sign-above}
 use Rattle.print.proofs.put.put_sign.Statement.{statement}
 use Rattle.print.proofs.put.put_sign.Tie as tie
