@@ -1,0 +1,3 @@
+-- What a line of the text program says.
+pub mod Words
+pub mod Numbers

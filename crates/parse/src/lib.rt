@@ -1,0 +1,3 @@
+// A line of the text program is a command. What each line says is in specs/.
+mod number;
+mod word;
