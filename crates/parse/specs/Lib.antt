@@ -1,3 +1,4 @@
 -- What a line of the text program says.
 pub mod Words
 pub mod Numbers
+pub mod Steps
