@@ -1,4 +1,6 @@
 // A line of the text program is a command. What each line says is in specs/.
+pub mod command;
+mod keyword;
 mod number;
 mod step;
 mod word;
