@@ -1,22 +1,22 @@
 -- Laws of a word read digit by digit: a value that is past the limit stays past it, so reading may stop there.
 use mathlib.Core.Path.{_≡_, refl, sym, ap, _∙_}
-use mathlib.Core.Bool.{Bool, true, false, not, _&&_, cond, and-false}
+use mathlib.Core.Bool.{Bool, true, false, not, _&&_, cond, and-false, false≢true}
 use mathlib.Core.List.{List}
 use mathlib.Core.Logic.{_⊎_, ⊎-elim, inl, inr}
-use Prim.Native.Nat.{ℕ, zero, suc, _+_, _*_, _-_, _<_, _≤_}
+use Prim.Native.Nat.{ℕ, zero, suc, _+_, _*_, _-_, _%_, _<_, _≤_}
 use native.Mathlib.Nat.{add-zero, add-suc}
 use native.Mathlib.Omega.{arith}
-use lib.ListN.{length, getD, List·getD-eq-default}
-use lib.Dec.{leb}
+use lib.ListN.{length, getD, drop, List·getD-eq-default}
+use lib.Dec.{eqb, leb}
 use borrow.Author.Tests.{eq-eqb, le-leb, lt-leb, leb-true, leb-false}
 use Rattle.loops.specs.Search.{first, all}
 use Rattle.loops.specs.Turns.{upTo}
 use Rattle.loops.proofs.Search.{Searched, search-start, search-miss, search-over, all-fails}
 use Rattle.loops.proofs.Turns.{upTo-zero, upTo-suc, upTo-more}
-use Rattle.text.specs.Bytes.{digit}
+use Rattle.text.specs.Bytes.{digit, minus}
 use Rattle.parse.specs.declared.number.Number.{Number}
 use Rattle.parse.specs.declared.number.Number.the-variants.{Value, Bad}
-use Rattle.parse.specs.Numbers.{digitsMost, isDigit, valueOf, isNumber, numberOf, moreOf, voteMost, voteOf}
+use Rattle.parse.specs.Numbers.{digitsMost, isDigit, valueOf, isNumber, numberOf, moreOf, voteMost, minusMost, negatedOf, voteOf}
 
 -- ---- a digit more
 
@@ -119,3 +119,29 @@ number-long most word h = simp (lt-leb (length word) digitsMost h, and-false)
 pub vote-none : (word : List ℕ) → length word < 1 → voteOf word ≡ Bad
 unfolding voteOf
 vote-none word h = simp (List·getD-eq-default word 0 {n = 0} (omega arith)) (number-none voteMost word h)
+
+-- ---- bounds
+
+and-right : (x y : Bool) → x && y ≡ true → y ≡ true
+and-right true y e = e
+and-right false y e = absurd (false≢true e)
+
+pub number-le : (most : ℕ) (word : List ℕ) (v : ℕ) → numberOf most word ≡ Value v → v ≤ most
+unfolding numberOf isNumber
+number-le most word v e = go (isNumber most word) refl e
+  where
+    go : (t : Bool) → isNumber most word ≡ t → cond t (Value (valueOf word (length word))) Bad ≡ Value v → v ≤ most
+    go true q e =
+        let h : valueOf word (length word) ≡ v = cc in
+        omega (arith, leb-true (valueOf word (length word)) most (and-right (leb 1 (length word) && leb (length word) digitsMost && all (λ i. isDigit (getD word i 0)) (length word)) (leb (valueOf word (length word)) most) q))
+    go false q e = absurd (let z : _≡_ {A = ℕ} 0 1 = cc in omega arith)
+
+-- a vote is a byte
+pub vote-lt : (word : List ℕ) (v : ℕ) → voteOf word ≡ Value v → v < 256
+unfolding voteOf
+vote-lt word v e = go (eqb (getD word 0 0) minus) (numberOf minusMost (drop 1 word)) e
+  where
+    go : (t : Bool) (n : Number) → cond t (negatedOf n) (numberOf voteMost word) ≡ Value v → v < 256
+    go true (Value u) e = let h : (256 - u % 256) % 256 ≡ v = cc in omega arith
+    go true Bad e = absurd (let z : _≡_ {A = ℕ} 0 1 = cc in omega arith)
+    go false n e = omega (arith, number-le voteMost word v e)

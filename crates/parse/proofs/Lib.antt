@@ -3,3 +3,4 @@ pub mod Digits
 pub mod Parts
 pub mod Split
 pub mod Walk
+pub mod Leading

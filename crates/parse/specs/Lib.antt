@@ -3,3 +3,4 @@ pub mod Words
 pub mod Numbers
 pub mod Steps
 pub mod Keywords
+pub mod Lists

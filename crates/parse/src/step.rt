@@ -11,7 +11,7 @@ ghost use Rattle.parse.specs.Steps.{endAfter, stepBy, stepOf};
 
 // The value of the next word and where it ends, or that there is no word or that it is no number.
 pub(crate) enum Step {
-    Next { value: u64, end: usize },
+    Next(u64, usize),
     Stop,
 }
 
@@ -19,7 +19,7 @@ fn step_by(n: Number, end: usize) -> Step
     ensures { λ r. ⌜ r ≡ stepBy n end ⌝ }
 {
     match n {
-        Number::Value(value) => Step::Next { value, end },
+        Number::Value(value) => Step::Next(value, end),
         Number::Bad => Step::Stop,
     }
 }
