@@ -1,24 +1,26 @@
 -- Laws of the list that the words begin with, as a loop reads it: what is left of the words completes the list, and once
 -- a word is no number, or the limit is reached, the words are no list.
 use mathlib.Core.Path.{_≡_, refl, sym, ap, _∙_}
-use mathlib.Core.Bool.{Bool, cond}
-use mathlib.Core.List.{List, [], _∷_}
+use mathlib.Core.Bool.{Bool, true, false, cond}
+use mathlib.Core.List.{List, [], _∷_, append-nil}
 use Prim.Native.Nat.{ℕ, zero, suc, _+_, _-_, _<_, _≤_}
 use native.Mathlib.Nat.{sub-zero, zero-add}
 use native.Mathlib.Numerals.{add-one}
 use native.Mathlib.Omega.{arith}
-use lib.ListN.{length, set}
-use lib.Seq.{sets}
+use lib.ListN.{length, getD, set}
+use lib.Seq.{sets, sets-eq, drop-length}
 use lib.Dec.{eqb}
-use borrow.Author.Tests.{eq-eqb, ne-eqb}
+use borrow.Author.Tests.{eq-eqb, ne-eqb, eqb-true}
 use Rattle.parse.specs.declared.number.Number.{Number}
 use Rattle.parse.specs.declared.number.Number.the-variants.{Value, Bad}
 use Rattle.parse.specs.declared.many.Many.{Many}
 use Rattle.parse.specs.declared.many.Many.the-variants.{Count, Refused}
 use Rattle.parse.specs.declared.step.Step.the-variants.{Next, Stop}
 use Rattle.parse.specs.Words.{wordsAfter}
+use Rattle.parse.specs.Numbers.{numberOf}
 use Rattle.parse.specs.Steps.{stepOf}
 use Rattle.parse.specs.Lists.{ahead, leading, isList, manyOf, Listed}
+use Rattle.parse.proofs.Digits.{number-le}
 use Rattle.parse.proofs.Split.{wordsAfter-next, wordsAfter-end}
 use Rattle.parse.proofs.Walk.{Stepped, step-next, step-stop}
 
@@ -113,3 +115,49 @@ module _ {reader : List ℕ → Number} {most : ℕ} {ws₀ : List (List ℕ)} {
   at-more h c v e s =
       let n = step-next reader line at v e h s in
       left-more (rw (n .word) at l) c v (n .value)
+
+-- ---- what a list holds
+
+-- no more numbers than the limit
+pub leading-length : (reader : List ℕ → Number) (most : ℕ) (ws : List (List ℕ)) → length (leading reader most ws) ≤ most
+unfolding leading
+leading-length reader zero ws = omega arith
+leading-length reader (suc most) [] = omega arith
+leading-length reader (suc most) (w ∷ ws) = go (reader w) (leading-length reader most ws)
+  where
+    go : (n : Number) → length (leading reader most ws) ≤ most → length (ahead n (leading reader most ws)) ≤ suc most
+    go (Value v) h = omega arith
+    go Bad h = omega arith
+
+-- as many as are counted
+pub many-count : (reader : List ℕ → Number) (most : ℕ) (ws : List (List ℕ)) (n : ℕ) → manyOf reader most ws ≡ Count n → n ≡ length (leading reader most ws)
+unfolding manyOf
+many-count reader most ws n e = go (isList reader most ws) refl e
+  where
+    go : (t : Bool) → isList reader most ws ≡ t → cond t (Count (length ws)) Refused ≡ Count n → n ≡ length (leading reader most ws)
+    go true q e = let h : length ws ≡ n = cc in omega (arith, eqb-true (length (leading reader most ws)) (length ws) q)
+    go false q e = absurd (let z : _≡_ {A = ℕ} 0 1 = cc in omega arith)
+
+-- each within the limit of a number
+pub leading-le : (limit most : ℕ) (ws : List (List ℕ)) (i : ℕ) → getD (leading (numberOf limit) most ws) i 0 ≤ limit
+unfolding leading
+leading-le limit zero ws i = omega arith
+leading-le limit (suc most) [] i = omega arith
+leading-le limit (suc most) (w ∷ ws) i = go (numberOf limit w) refl i (leading-le limit most ws)
+  where
+    go : (n : Number) → numberOf limit w ≡ n → (i : ℕ) → ((j : ℕ) → getD (leading (numberOf limit) most ws) j 0 ≤ limit) → getD (ahead n (leading (numberOf limit) most ws)) i 0 ≤ limit
+    go (Value v) e zero rest = number-le limit w v e
+    go (Value v) e (suc i) rest = rest i
+    go Bad e i rest = omega arith
+
+-- a list as long as the buffer fills it
+pub sets-whole : (buffer vs : List ℕ) → length vs ≡ length buffer → sets buffer 0 vs ≡ vs
+sets-whole buffer vs e =
+    let z : 0 + length vs ≡ length buffer = omega arith in
+    sets-eq vs buffer 0 (omega arith) ∙ rw (z, drop-length buffer) (append-nil vs)
+
+-- a list that is read to the buffer's end is all that the buffer then holds
+pub listed-whole : {reader : List ℕ → Number} {most : ℕ} {ws : List (List ℕ)} {buffer buffer′ : List ℕ} {r : Many}
+    → Listed reader most ws buffer r buffer′ → (n : ℕ) → r ≡ Count n → length buffer ≡ most → most ≤ n → buffer′ ≡ leading reader most ws
+listed-whole {reader} {most} {ws} {buffer} l n e b h =
+    l .after ∙ sets-whole buffer (leading reader most ws) (omega (arith, many-count reader most ws n (sym (l .many) ∙ e), leading-length reader most ws))

@@ -4,3 +4,4 @@ pub mod Numbers
 pub mod Steps
 pub mod Keywords
 pub mod Lists
+pub mod Line

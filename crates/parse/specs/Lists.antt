@@ -12,6 +12,10 @@ use Rattle.parse.specs.declared.many.Many.{Many}
 use Rattle.parse.specs.declared.many.Many.the-variants.{Count, Refused}
 use Rattle.parse.specs.Words.{wordsAfter}
 
+-- the numbers of `open`, the parents of `book`, the votes of `poll`
+abbrev pub openMost : ℕ
+openMost = 4
+
 abbrev pub parentsMost : ℕ
 parentsMost = 16
 

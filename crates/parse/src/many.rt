@@ -5,8 +5,8 @@ use crate::step::next_vote;
 ghost use lib.ListN.{length};
 ghost use Prim.Native.Nat.{_≤_};
 ghost use Rattle.parse.specs.Words.{wordsAfter};
-ghost use Rattle.parse.specs.Numbers.{nameOf, voteOf};
-ghost use Rattle.parse.specs.Lists.{Listed, parentsMost, votesMost};
+ghost use Rattle.parse.specs.Numbers.{numberOf, voteOf};
+ghost use Rattle.parse.specs.Lists.{Listed};
 
 // How many numbers, or that some word is none or that they are too many.
 pub(crate) enum Many {
@@ -14,41 +14,36 @@ pub(crate) enum Many {
     Refused,
 }
 
-// The largest name.
-pub(crate) const NAME_MOST: u64 = 18446744073709551615;
-
-const PARENTS_MOST: usize = 16;
-
-const VOTES_MOST: usize = 64;
-
-pub(crate) fn read_parents(line: &[u8], start: usize, parents: &mut [u64; 16]) -> Many
-    requires { ⌜ start ≤ length (now line) ⌝ }
-    ensures { λ r. ⌜ Listed nameOf parentsMost (wordsAfter (now (line .entry)) start) (now (parents .entry)) r (now (parents .exit)) ⌝ }
+// As many numbers as the buffer holds, each within the limit.
+pub(crate) fn read_numbers(line: &[u8], start: usize, most: u64, numbers: &mut [u64]) -> Many
+    requires { ⌜ (start ≤ length (now line)) × (9 ≤ most) ⌝ }
+    ensures { λ r. ⌜ Listed (numberOf most) (length (now (numbers .entry))) (wordsAfter (now (line .entry)) start) (now (numbers .entry)) r (now (numbers .exit)) ⌝ }
 {
     let mut at = start;
     let mut count: usize = 0;
     while at < line.len() {
-        if PARENTS_MOST <= count {
+        if numbers.len() <= count {
             return Many::Refused;
         }
-        let Step::Next(value, end) = next_number(line, at, NAME_MOST) else {
+        let Step::Next(value, end) = next_number(line, at, most) else {
             return Many::Refused;
         };
-        parents[count] = value;
+        numbers[count] = value;
         count += 1;
         at = end;
     }
     Many::Count(count)
 }
 
-pub(crate) fn read_votes(line: &[u8], start: usize, votes: &mut [u8; 64]) -> Many
+// As many votes as the buffer holds.
+pub(crate) fn read_votes(line: &[u8], start: usize, votes: &mut [u8]) -> Many
     requires { ⌜ start ≤ length (now line) ⌝ }
-    ensures { λ r. ⌜ Listed voteOf votesMost (wordsAfter (now (line .entry)) start) (now (votes .entry)) r (now (votes .exit)) ⌝ }
+    ensures { λ r. ⌜ Listed voteOf (length (now (votes .entry))) (wordsAfter (now (line .entry)) start) (now (votes .entry)) r (now (votes .exit)) ⌝ }
 {
     let mut at = start;
     let mut count: usize = 0;
     while at < line.len() {
-        if VOTES_MOST <= count {
+        if votes.len() <= count {
             return Many::Refused;
         }
         let Step::Next(value, end) = next_vote(line, at) else {
