@@ -1,5 +1,4 @@
 // A completed poll on a ledger: the first refusal that applies is given, or the poll is written.
-use votes;
 use polling::writing;
 use rules::answer::Answer;
 use rules::answer::Found;
@@ -7,6 +6,7 @@ use rules::answer::Refusal;
 use rules::layout;
 use rules::vote;
 use rules::vote::State;
+use votes;
 ghost use mathlib.Core.Path.{_≡_};
 ghost use Prim.Native.Nat.{_<_};
 ghost use lib.ListN.{length};
