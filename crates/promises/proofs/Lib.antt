@@ -22,3 +22,4 @@ pub mod Failed
 pub mod Polled
 pub mod Run
 pub mod Kept
+pub mod OfCode

@@ -70,8 +70,9 @@ ranges = record {
   accepted = λ w name. value-most _ (λ i. bit (acceptedOf w i)) w name (λ i ledger h. omega (arith, accepted-le w i));
   lead = λ w name. value-within _ (leadOf w) w name (λ i ledger h. omega (arith, lead-le w (ledger .sound) i h));
   confidence = λ w name. value-most _ (confidenceOf w) w name (λ i ledger h. omega (arith, confidence-le w (ledger .sound) i h));
-  size = λ w name.
+  size = λ w name taken.
       value-taken (Between _ _) (λ i. pos (sizeOf w i)) w name
       (λ i ledger h.
-      between _ _ (sizeOf w i) (omega (arith, size-least w (ledger .sound) i h)) (omega (arith, size-most w (ledger .sound) i, ledger .sound .bookingsMost)));
+      between _ _ (sizeOf w i) (omega (arith, size-least w (ledger .sound) i h)) (omega (arith, size-most w (ledger .sound) i, ledger .sound .bookingsMost)))
+      taken;
 }

@@ -5,6 +5,7 @@ use mathlib.Core.Bool.{Bool, true, false, not, _||_, cond, true≢false}
 use mathlib.Core.List.{List}
 use mathlib.Core.Logic.{_≢_, _⊎_, inl, inr, ⊎-elim}
 use Prim.Native.Nat.{ℕ, _<_, _≤_}
+use native.Mathlib.Omega.{arith}
 use lib.IntN.{ℤ}
 use lib.ListN.{length, getD}
 use lib.Dec.{eqb, leb, ltb}
@@ -157,8 +158,10 @@ twice-tells parents =
     any-tells (λ b. any (λ a. eqb (getD parents a 0) (getD parents b 0)) b) (length parents)
     (λ b h e.
     let found = any→ (λ a. eqb (getD parents a 0) (getD parents b 0)) b e in
-    record { earlier = found .0; later = b; ordered = found .1; within = h; same = eqb-true _ _ (found .2) })
-    (λ p. (p .later, p .within, →any (λ a. eqb (getD parents a 0) (getD parents (p .later) 0)) (p .later) (p .earlier) (p .ordered) (eq-eqb _ _ (p .same))))
+    record { earlier = found .0; later = b; ordered = omega (arith, found .1); within = h; same = eqb-true _ _ (found .2) })
+    (λ p.
+    let again = →any (λ a. eqb (getD parents a 0) (getD parents (p .later) 0)) (p .later) (p .earlier) (omega (arith, p .ordered)) (eq-eqb _ _ (p .same)) in
+    (p .later, p .within, again))
 
 -- 11: on a sound workspace the booking found is the one with the name
 waiting-tells : (w : List ℕ) → Sound w → (name i : ℕ) → lookUp w name ≡ At i → Tells (not (eqb (stateOf w i) 0)) (NotWaiting w name)

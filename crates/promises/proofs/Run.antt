@@ -217,7 +217,7 @@ by-taken P words later h false t f = f refl
 right-words : {w u : List ℕ} {h : History} → u ≡ w → Right w h → Right u h
 right-words {h = h} e right = subst (λ x. Right x h) (sym e) right
 
-opening-right : (w : List ℕ) (s : Setting) → isTaken (openCall w s .answer) ≡ true → Right (openCall w s .words) fresh
+pub opening-right : (w : List ℕ) (s : Setting) → isTaken (openCall w s .answer) ≡ true → Right (openCall w s .words) fresh
 opening-right w s t = let o = open-taken w s t in right-words (o .2) (opened-right s (opened-ledger s (o .1)))
 
 book-right : (w : List ℕ) (h : History) (name slot : ℕ) (parents : List ℕ) (taken : Bool) → isTaken (bookCall w name slot parents .answer) ≡ taken

@@ -1,0 +1,132 @@
+//! Nanoseconds of each call, and of comparing the words with a copy.
+//!
+//! Every call is timed by itself. A sample of several calls lasts about as
+//! long as the machine lets a program run before another's turn, so that on a
+//! busy machine more than half of one side's samples can be interrupted, and
+//! the middle one with them. A single call is seldom interrupted.
+
+use crate::ledgers::{case, Case, SIZES};
+use random::call::{Call, Face, Second};
+use std::hint::black_box;
+use std::time::Instant;
+
+/// Calls timed, of which the middle one is reported.
+const SAMPLES: usize = 501;
+/// Comparisons in one sample, as one is not much longer than the clock.
+const BATCH: usize = 8;
+
+/// What a call costs on a ledger of `n`, in nanoseconds.
+pub struct Cost {
+    pub kind: &'static str,
+    pub n: usize,
+    /// Nothing if the product was not linked.
+    pub ours: Option<f64>,
+    pub second: f64,
+    /// The second program once more: what differs from it is chance.
+    pub control: f64,
+    /// Comparing the bytes of the workspace with a copy.
+    pub memcmp: f64,
+    pub note: &'static str,
+}
+
+#[cfg(feature = "station")]
+const OURS: Option<&dyn Face> = Some(&random::station::Station);
+#[cfg(not(feature = "station"))]
+const OURS: Option<&dyn Face> = None;
+
+pub fn measure() -> Vec<Cost> {
+    let mut costs = Vec::new();
+    for kind in Call::KINDS {
+        for n in SIZES {
+            costs.push(measure_case(kind, n));
+        }
+    }
+    costs
+}
+
+/// All take turns, and take turns at being first.
+fn measure_case(kind: &'static str, n: usize) -> Cost {
+    let case = case(kind, n);
+    let copy = case.ws.clone();
+    let mut ws = case.ws.clone();
+    let faces: [Option<&dyn Face>; 3] = [OURS, Some(&Second), Some(&Second)];
+    let mut times: [Vec<f64>; 3] = Default::default();
+    let mut memcmp = Vec::new();
+    for turn in 0..SAMPLES {
+        for place in 0..faces.len() {
+            let who = (turn + place) % faces.len();
+            if let Some(face) = faces[who] {
+                times[who].push(sample(face, &case, &mut ws));
+            }
+        }
+        memcmp.push(timed(BATCH, || {
+            black_box(black_box(&case.ws[..]) == black_box(&copy[..]));
+        }));
+    }
+    let [ours, second, control] = times;
+    Cost {
+        kind,
+        n,
+        ours: (!ours.is_empty()).then(|| middle(ours)),
+        second: middle(second),
+        control: middle(control),
+        memcmp: middle(memcmp),
+        note: case.note,
+    }
+}
+
+/// One call. The words are copied anew outside of the time taken, so they
+/// are warm and the same for every call.
+fn sample(face: &dyn Face, case: &Case, ws: &mut [u16]) -> f64 {
+    ws.copy_from_slice(&case.ws);
+    timed(1, || {
+        black_box(face.call(black_box(ws), black_box(&case.call)));
+    })
+}
+
+fn timed(times: usize, mut action: impl FnMut()) -> f64 {
+    let start = Instant::now();
+    for _ in 0..times {
+        action();
+    }
+    start.elapsed().as_nanos() as f64 / times as f64
+}
+
+pub fn middle(mut samples: Vec<f64>) -> f64 {
+    samples.sort_by(f64::total_cmp);
+    samples[samples.len() / 2]
+}
+
+pub fn print(costs: &[Cost]) {
+    println!("calls: nanoseconds, the middle of {SAMPLES} calls, words warm");
+    let clock = middle((0..SAMPLES).map(|_| timed(1, || ())).collect());
+    println!("reading the clock costs {clock:.0}, and is in every call\n");
+    println!(
+        "{:<11} {:>4} {:>11} {:>11} {:>8} {:>12} {:>12}",
+        "call", "n", "ours", "second", "memcmp", "ours/second", "ours/memcmp"
+    );
+    for cost in costs {
+        let number = |value: Option<f64>, digits: usize| match value {
+            Some(value) => format!("{value:.digits$}"),
+            None => "-".to_string(),
+        };
+        println!(
+            "{:<11} {:>4} {:>11} {:>11.0} {:>8.0} {:>12} {:>12}  {}",
+            cost.kind,
+            cost.n,
+            number(cost.ours, 0),
+            cost.second,
+            cost.memcmp,
+            number(cost.ours.map(|ours| ours / cost.second), 2),
+            number(cost.ours.map(|ours| ours / cost.memcmp), 1),
+            cost.note
+        );
+    }
+    let control = || costs.iter().map(|cost| cost.control / cost.second);
+    println!(
+        "\ncontrol: the second program against itself gave ratios from {:.2} to {:.2};\n\
+         a ratio to it within that range says nothing",
+        control().fold(f64::INFINITY, f64::min),
+        control().fold(0.0, f64::max)
+    );
+}

@@ -1,0 +1,212 @@
+//! A call that shows something on a given ledger: one meant to be taken, or
+//! one meant for a certain refusal.
+
+use crate::call::Call;
+use crate::grow::{good_setting, Style};
+use crate::prng::Prng;
+use second::layout::PARENTS;
+use second::ledger::{Ledger, Reading, State};
+use second::setting::Setting;
+
+/// What a call is meant to show.
+#[derive(Clone, Copy, Debug)]
+enum Aim {
+    Open,
+    OpenBadly,
+    Book,
+    BookKnownName,
+    BookBadSlot,
+    BookBadCount,
+    BookUnknownParent,
+    BookParentTwice,
+    BookAnything,
+    Poll,
+    PollUnknown,
+    PollAgain,
+    PollBadCount,
+    PollBadByte,
+    Read,
+    ReadUnknown,
+}
+
+const AIMS: [(usize, Aim); 16] = [
+    (2, Aim::Open),
+    (3, Aim::OpenBadly),
+    (22, Aim::Book),
+    (2, Aim::BookKnownName),
+    (2, Aim::BookBadSlot),
+    (2, Aim::BookBadCount),
+    (2, Aim::BookUnknownParent),
+    (2, Aim::BookParentTwice),
+    (2, Aim::BookAnything),
+    (22, Aim::Poll),
+    (2, Aim::PollUnknown),
+    (2, Aim::PollAgain),
+    (2, Aim::PollBadCount),
+    (2, Aim::PollBadByte),
+    (35, Aim::Read),
+    (2, Aim::ReadUnknown),
+];
+
+/// A call on the ledger. The style says which slots, parents and names are
+/// likely.
+pub fn choose(prng: &mut Prng, ledger: &Ledger, style: &Style) -> Call {
+    let aim = prng.weigh(&AIMS);
+    match aim {
+        Aim::Open => Call::Open(good_setting(prng)),
+        Aim::OpenBadly => Call::Open(any_setting(prng)),
+        Aim::Poll | Aim::PollUnknown | Aim::PollAgain | Aim::PollBadCount | Aim::PollBadByte => {
+            poll(prng, ledger, style, aim)
+        }
+        Aim::Read => Call::Read(prng.pick(&Reading::ALL), known_name(prng, ledger)),
+        Aim::ReadUnknown => Call::Read(prng.pick(&Reading::ALL), unknown_name(prng, ledger)),
+        _ => book(prng, ledger, style, aim),
+    }
+}
+
+/// A setting around the borders, good or not.
+fn any_setting(prng: &mut Prng) -> Setting {
+    let mut setting = good_setting(prng);
+    let Setting { k, beta1, .. } = setting;
+    match prng.below(6) {
+        0 => setting.k = prng.pick(&[0, 65, 256, 65535]),
+        1 => setting.a = prng.pick(&[0, k / 2, k / 2 + 1, k, k + 1, 32768 + k, 65535]),
+        2 => setting.beta1 = prng.pick(&[0, setting.beta2, setting.beta2 + 1, 65535]),
+        3 => setting.beta2 = prng.pick(&[0, beta1 - 1, beta1, 510, 511, 65535]),
+        4 => {
+            setting.k = prng.pick(&[63, 64, 65, 66]);
+            setting.a = setting.k;
+        }
+        _ => {
+            setting.k = prng.draw() as u16;
+            setting.a = prng.draw() as u16;
+        }
+    }
+    setting
+}
+
+fn book(prng: &mut Prng, ledger: &Ledger, style: &Style, aim: Aim) -> Call {
+    let booked: Vec<u64> = ledger.bookings.iter().map(|b| b.name).collect();
+    let mut name = style
+        .names
+        .fresh(prng, |name| ledger.numbers.contains_key(&name));
+    let mut slot = style.slot(prng);
+    let mut parents = style.shape.parents(prng, &booked);
+    match aim {
+        Aim::BookKnownName => name = known_name(prng, ledger),
+        Aim::BookBadSlot => slot = bad_slot(prng),
+        Aim::BookBadCount => parents = bad_parent_count(prng, &booked),
+        Aim::BookUnknownParent => {
+            let at = prng.below(parents.len());
+            parents[at] = unknown_name(prng, ledger);
+            if prng.chance(30) && parents.len() < PARENTS {
+                parents.push(parents[at]);
+            }
+        }
+        Aim::BookParentTwice => {
+            parents.truncate(PARENTS - 1);
+            let again = prng.pick(&parents);
+            parents.insert(prng.below(parents.len() + 1), again);
+        }
+        Aim::BookAnything => {
+            // Several things wrong at once: the order of refusals decides.
+            if prng.chance(40) {
+                name = known_name(prng, ledger);
+            }
+            if prng.chance(40) {
+                slot = bad_slot(prng);
+            }
+            let mut from = prng.some(&booked, 3);
+            from.push(unknown_name(prng, ledger));
+            parents = (0..prng.below(7)).map(|_| prng.pick(&from)).collect();
+        }
+        _ => (),
+    }
+    Call::Book {
+        name,
+        slot,
+        parents,
+    }
+}
+
+fn bad_slot(prng: &mut Prng) -> u16 {
+    prng.pick(&[0, 256, 257, 511, 512, 32768, 65535])
+}
+
+/// None or more than four, at times so many that the low sixteen bits of
+/// their number are good.
+fn bad_parent_count(prng: &mut Prng, booked: &[u64]) -> Vec<u64> {
+    let count = match prng.below(20) {
+        0 => 65536 + 1,
+        1 => 65536,
+        2..=8 => 0,
+        9..=14 => 5,
+        _ => prng.between(6, 300),
+    };
+    let from = prng.below(booked.len());
+    (booked.iter().cycle().skip(from).take(count))
+        .copied()
+        .collect()
+}
+
+fn poll(prng: &mut Prng, ledger: &Ledger, style: &Style, aim: Aim) -> Call {
+    let has_state = |is_waiting: bool| -> Vec<u64> {
+        (ledger.bookings.iter())
+            .filter(|b| (b.state == State::Waiting) == is_waiting)
+            .map(|b| b.name)
+            .collect()
+    };
+    let waiting = has_state(true);
+    let name = match aim {
+        Aim::PollUnknown => unknown_name(prng, ledger),
+        Aim::PollAgain => prng.pick(&has_state(false)),
+        _ if waiting.is_empty() => prng.pick(&has_state(false)),
+        _ => prng.pick(&waiting),
+    };
+    // The ledger may have been opened again since the style was drawn.
+    let style = Style {
+        setting: ledger.setting,
+        ..style.clone()
+    };
+    let mut votes = style.votes(prng);
+    if let Aim::PollBadByte = aim {
+        let at = prng.below(votes.len());
+        votes[at] = prng.pick(&[2, 3, 127, 128, 129, 253, 254]);
+    }
+    if let Aim::PollBadCount = aim {
+        let k = votes.len();
+        let count = prng.pick(&[0, k - 1, k + 1, k + 256, k + 65536, 2 * k]);
+        let filler = prng.pick(&[0, 1, 255]);
+        votes.resize(count, filler);
+    }
+    if prng.chance(3) {
+        // Any bytes: with few votes they may all be good.
+        votes = votes.iter().map(|_| prng.draw() as u8).collect();
+    }
+    Call::Poll { name, votes }
+}
+
+fn known_name(prng: &mut Prng, ledger: &Ledger) -> u64 {
+    // The latest have the largest ancestries; the genesis is a case apart.
+    let n = ledger.bookings.len();
+    let b = match prng.below(10) {
+        0 => 0,
+        1..=3 => n - 1 - prng.below(n.min(4)),
+        _ => prng.below(n),
+    };
+    ledger.bookings[b].name
+}
+
+/// A name that is not booked, often one bit from a name that is.
+fn unknown_name(prng: &mut Prng, ledger: &Ledger) -> u64 {
+    loop {
+        let name = match prng.below(3) {
+            0 => known_name(prng, ledger) ^ (1 << prng.below(64)),
+            1 => known_name(prng, ledger).rotate_left(16),
+            _ => prng.draw(),
+        };
+        if !ledger.numbers.contains_key(&name) {
+            return name;
+        }
+    }
+}

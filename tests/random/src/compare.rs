@@ -1,0 +1,290 @@
+//! Call against call: two faces answer the same calls on the same words.
+//!
+//! A run starts from a ledger (reached by a history, or sound without one)
+//! and makes calls on it. Some calls are made on a copy that is damaged or
+//! has another length. After each call the numbers, the values, all words and
+//! the guard words are compared; on reached ledgers the laws are checked.
+
+use crate::call::{Call, Face};
+use crate::choose::choose;
+use crate::damage::{change_any_word, damage};
+use crate::grow::{any_size, grow, words_of, Style};
+use crate::guard::Guarded;
+use crate::prng::Prng;
+use crate::report::words_text;
+use crate::scramble::scramble;
+use crate::tally::{Tally, LAWS, REACHED, UNREACHED};
+use second::laws::{check_accepted_once, History, Picture};
+use second::layout::WORDS;
+use second::ledger::{Ledger, Reading};
+use second::sound::{decode, Broken};
+use second::words::Answer;
+use std::fmt::{self, Display, Formatter};
+
+/// Calls in a run.
+const RUN_CALLS: usize = 50;
+
+/// A difference, with the run that led to it as text.
+#[derive(Debug)]
+pub struct Difference {
+    pub run: usize,
+    pub text: String,
+}
+
+/// Makes `count` calls of runs under the seed.
+pub fn compare(
+    ours: &dyn Face,
+    theirs: &dyn Face,
+    count: usize,
+    seed: u64,
+) -> (Tally, Option<Difference>) {
+    let mut tally = Tally::default();
+    for run in 0.. {
+        if tally.calls >= count {
+            break;
+        }
+        let calls = RUN_CALLS.min(count - tally.calls);
+        let mut prng = Prng::of_run(seed, run);
+        let mut contest = Contest::start(ours, theirs, run, &mut prng, &mut tally);
+        if let Err(what) = contest.run(&mut prng, &mut tally, calls) {
+            let text = format!("seed {seed}, run {run}\n{what}\n\n{}", contest.trail());
+            return (tally, Some(Difference { run, text }));
+        }
+    }
+    (tally, None)
+}
+
+/// One run.
+struct Contest<'a> {
+    ours: &'a dyn Face,
+    theirs: &'a dyn Face,
+    style: Style,
+    ws: Vec<u16>,
+    /// What led to the words, if a history did.
+    history: Option<History>,
+    /// The words that the run started from, and all that was done.
+    start: Vec<u16>,
+    steps: Vec<Step>,
+}
+
+/// A call that was made, and its answers.
+struct Step {
+    note: &'static str,
+    call: Call,
+    ours: Answer,
+    theirs: Answer,
+}
+
+impl<'a> Contest<'a> {
+    fn start(
+        ours: &'a dyn Face,
+        theirs: &'a dyn Face,
+        run: usize,
+        prng: &mut Prng,
+        tally: &mut Tally,
+    ) -> Contest<'a> {
+        let style = Style::any(prng);
+        let size = any_size(prng, run);
+        let mut grown = grow(prng, style, size);
+        let is_reached = prng.chance(60);
+        if !is_reached {
+            scramble(prng, &mut grown.ledger);
+        }
+        tally.add(if is_reached { REACHED } else { UNREACHED });
+        let ws = words_of(&grown.ledger);
+        Contest {
+            ours,
+            theirs,
+            style: grown.style,
+            start: ws.clone(),
+            ws,
+            history: is_reached.then_some(grown.history),
+            steps: Vec::new(),
+        }
+    }
+
+    /// The whole run as text.
+    fn trail(&self) -> String {
+        let mut text = format!("the run starts from {}", words_text(&self.start));
+        for step in &self.steps {
+            text.push_str(&step.to_string());
+        }
+        text
+    }
+
+    fn run(&mut self, prng: &mut Prng, tally: &mut Tally, calls: usize) -> Result<(), String> {
+        for _ in 0..calls {
+            let ledger = decode(&self.ws).map_err(|broken| format!("unsound by {broken:?}"))?;
+            let call = choose(prng, &ledger, &self.style);
+            match prng.below(100) {
+                0..=3 => {
+                    let resized = any_length(prng, &self.ws);
+                    let verdict = decode_any(&resized);
+                    self.both("other length", &resized, verdict, &call, tally)?;
+                }
+                4..=23 => {
+                    let damaged = damaged(prng, &self.ws);
+                    let verdict = decode(&damaged);
+                    self.both("damaged", &damaged, verdict, &call, tally)?;
+                }
+                _ => self.step(ledger, &call, tally)?,
+            }
+        }
+        self.check_laws(tally)
+    }
+
+    /// A call on the run's own words.
+    fn step(&mut self, ledger: Ledger, call: &Call, tally: &mut Tally) -> Result<(), String> {
+        let before = self.ws.clone();
+        let (answer, after) = self.both("own words", &before, Ok(ledger), call, tally)?;
+        self.ws = after;
+        if answer.0 != 0 {
+            return Ok(());
+        }
+        match (call, &mut self.history) {
+            // Whatever was before, an opening starts a history.
+            (Call::Open(setting), history) => {
+                history.get_or_insert_default().opened(setting.a);
+                self.style.setting = *setting;
+            }
+            (
+                Call::Book {
+                    name,
+                    slot,
+                    parents,
+                },
+                Some(history),
+            ) => history.booked(*name, *slot, parents),
+            (Call::Poll { name, votes }, Some(history)) => history.polled(*name, votes),
+            _ => (),
+        }
+        Ok(())
+    }
+
+    /// Both faces make the call on these words; what they say and leave must
+    /// be the same.
+    fn both(
+        &mut self,
+        note: &'static str,
+        before: &[u16],
+        verdict: Result<Ledger, Broken>,
+        call: &Call,
+        tally: &mut Tally,
+    ) -> Result<(Answer, Vec<u16>), String> {
+        let mut ours = Guarded::new(before);
+        let our_answer = self.ours.call(ours.lend(), call);
+        let mut theirs = before.to_vec();
+        let their_answer = self.theirs.call(&mut theirs, call);
+
+        self.steps.push(Step {
+            note,
+            call: call.clone(),
+            ours: our_answer,
+            theirs: their_answer,
+        });
+        let differs = |what: &str| {
+            let made = &self.steps[self.steps.len() - 1];
+            let (before, ours) = (words_text(before), words_text(ours.words()));
+            let theirs = words_text(&theirs);
+            Err(format!(
+                "{what}\n{made}\nbefore: {before}\nours: {ours}\ntheirs: {theirs}"
+            ))
+        };
+        if our_answer != their_answer {
+            return differs("another answer");
+        }
+        if ours.words() != theirs {
+            return differs("other words");
+        }
+        if !ours.is_intact() {
+            return differs("a word outside the lent ones was written");
+        }
+        let may_change = our_answer.0 == 0 && !matches!(call, Call::Read(..));
+        if !may_change && theirs != before {
+            return differs("a refused call or a reading changed a word");
+        }
+        if may_change && decode(&theirs).is_err() {
+            return differs("a taken call left unsound words");
+        }
+        tally.add_call(call, our_answer, &verdict);
+        Ok((our_answer, theirs))
+    }
+
+    /// The laws of a history, or those of any sound ledger, as our face
+    /// shows them.
+    fn check_laws(&mut self, tally: &mut Tally) -> Result<(), String> {
+        let mut guarded = Guarded::new(&self.ws);
+        let picture = Picture::of_words(&self.ws, |name| {
+            let call = Call::Read(Reading::Accepted, name);
+            self.ours.call(guarded.lend(), &call) == (0, 1)
+        });
+        match &self.history {
+            Some(history) => history.check(&picture),
+            None => check_accepted_once(&picture.rows),
+        }
+        .map_err(|breach| format!("law {:?}: {}", breach.law, breach.said))?;
+        tally.add(LAWS);
+        Ok(())
+    }
+}
+
+impl Display for Step {
+    fn fmt(&self, f: &mut Formatter) -> fmt::Result {
+        let Step {
+            note,
+            call,
+            ours,
+            theirs,
+        } = self;
+        writeln!(f, "{note} {call:?}: ours {ours:?}, theirs {theirs:?}")
+    }
+}
+
+/// Words of another length, at times one whose low sixteen bits are right.
+fn any_length(prng: &mut Prng, ws: &[u16]) -> Vec<u16> {
+    let length = match prng.below(10) {
+        0 => 0,
+        1 => 1,
+        2..=4 => WORDS - 1,
+        5..=7 => WORDS + 1,
+        8 => prng.pick(&[8, 20, 2 * WORDS, 65536 + WORDS]),
+        _ => prng.below(2 * WORDS),
+    };
+    let mut resized = ws.to_vec();
+    resized.resize(length, 0);
+    resized
+}
+
+/// The verdict on words of any length, for the tally only.
+fn decode_any(ws: &[u16]) -> Result<Ledger, Broken> {
+    if ws.len() == WORDS {
+        decode(ws)
+    } else {
+        Err(Broken::BookingsOutside)
+    }
+}
+
+/// A damaged copy: one sentence broken, or several, or any words changed.
+fn damaged(prng: &mut Prng, ws: &[u16]) -> Vec<u16> {
+    let mut damaged = ws.to_vec();
+    match prng.below(10) {
+        0..=6 => loop {
+            let broken = prng.pick(&Broken::ALL);
+            if damage(prng, &mut damaged, broken) {
+                break;
+            }
+        },
+        7 => {
+            for _ in 0..prng.between(2, 4) {
+                change_any_word(prng, &mut damaged);
+            }
+        }
+        8 => change_any_word(prng, &mut damaged),
+        _ => {
+            let first = prng.pick(&Broken::ALL);
+            damage(prng, &mut damaged, first);
+            change_any_word(prng, &mut damaged);
+        }
+    }
+    damaged
+}

@@ -1,0 +1,253 @@
+//! Console against console: what our program prints for an input, byte by
+//! byte against the second program, and the laws on every list printed.
+
+use crate::compare::Difference;
+use crate::flaw::Flaw;
+use crate::prng::Prng;
+use crate::tally::Tally;
+use crate::text::{input, kind_of, Kind};
+use second::command::{parse, Command};
+use second::console::{lines, run, Console, BAD_LINE, LONGEST, TOO_LONG};
+use second::laws::{History, Picture};
+use second::refusal::Refusal;
+use std::io::{ErrorKind, Read, Write};
+use std::path::PathBuf;
+use std::process::{Command as Process, Stdio};
+use std::sync::mpsc;
+use std::thread;
+use std::time::Duration;
+
+/// Longer than any input should take.
+const PATIENCE: Duration = Duration::from_secs(60);
+
+/// From this many inputs on, everything must have been seen.
+pub const ENOUGH: usize = 150;
+
+/// Someone who prints something for an input.
+pub trait Program {
+    fn output(&self, input: &[u8]) -> Result<Vec<u8>, String>;
+}
+
+/// A program to be started anew for each input.
+pub struct Executable(pub PathBuf);
+
+impl Program for Executable {
+    fn output(&self, input: &[u8]) -> Result<Vec<u8>, String> {
+        let told = |what: &str, error: std::io::Error| format!("{what}: {error}");
+        let mut child = Process::new(&self.0)
+            .stdin(Stdio::piped())
+            .stdout(Stdio::piped())
+            .spawn()
+            .map_err(|error| told("the program does not start", error))?;
+        let mut stdin = child.stdin.take().expect("it was asked for");
+        let mut stdout = child.stdout.take().expect("it was asked for");
+        let input = input.to_vec();
+        let writer = thread::spawn(move || match stdin.write_all(&input) {
+            // A program need not read more than it takes.
+            Err(error) if error.kind() != ErrorKind::BrokenPipe => Err(error),
+            _ => Ok(()),
+        });
+        let (send, receive) = mpsc::channel();
+        thread::spawn(move || {
+            let mut output = Vec::new();
+            let result = stdout.read_to_end(&mut output).map(|_| output);
+            // Nobody listens any more once patience has ended.
+            let _ = send.send(result);
+        });
+        let Ok(output) = receive.recv_timeout(PATIENCE) else {
+            child.kill().map_err(|error| told("it hangs", error))?;
+            return Err("the program does not end".to_string());
+        };
+        let status = child.wait().map_err(|error| told("no status", error))?;
+        (writer.join().expect("the writer does not panic"))
+            .map_err(|error| told("the input was not written", error))?;
+        // The rules name no exit code, but a program must end by itself.
+        if status.code().is_none() {
+            return Err(format!("the program was ended: {status}"));
+        }
+        output.map_err(|error| told("the output was not read", error))
+    }
+}
+
+/// Compares on `count` inputs, kind after kind.
+pub fn compare(ours: &dyn Program, count: usize, seed: u64) -> (Tally, Option<Difference>) {
+    let mut tally = Tally::default();
+    for run in 0..count {
+        let mut prng = Prng::of_run(seed, run);
+        let kind = kind_of(run);
+        let input = input(&mut prng, run);
+        tally.add(kind_seen(kind));
+        for flaw in input.flaws {
+            tally.add(flaw_seen(flaw));
+        }
+        let result = compare_one(ours, &input.bytes).and_then(|()| walk(&input.bytes, &mut tally));
+        if let Err(what) = result {
+            let text = format!("seed {seed}, input {run}, kind {kind:?}\n{what}");
+            return (tally, Some(Difference { run, text }));
+        }
+    }
+    (tally, None)
+}
+
+/// The input of a run again.
+pub fn input_of(seed: u64, run: usize) -> Vec<u8> {
+    input(&mut Prng::of_run(seed, run), run).bytes
+}
+
+fn compare_one(ours: &dyn Program, input: &[u8]) -> Result<(), String> {
+    let ours = ours.output(input)?;
+    let theirs = run(input);
+    if ours == theirs {
+        return Ok(());
+    }
+    let same = (ours.iter().zip(&theirs)).take_while(|(a, b)| a == b);
+    let at = same.count();
+    let show = |output: &[u8]| {
+        let from = at.saturating_sub(100);
+        let to = output.len().min(at + 100);
+        String::from_utf8_lossy(&output[from..to]).into_owned()
+    };
+    Err(format!(
+        "outputs differ from byte {at} on ({} bytes and {})\nours, around it: {:?}\ntheirs: {:?}",
+        ours.len(),
+        theirs.len(),
+        show(&ours),
+        show(&theirs)
+    ))
+}
+
+/// Goes through the input line by line: counts what was printed and checks
+/// the laws on each list. Our output is the same, so they hold there too.
+fn walk(input: &[u8], tally: &mut Tally) -> Result<(), String> {
+    if input.len() > LONGEST {
+        tally.add(TOO_LONG.trim_end());
+        return Ok(());
+    }
+    if input.len() == LONGEST {
+        tally.add(LONGEST_TAKEN);
+    }
+    if input.last().is_some_and(|&byte| byte != b'\n') {
+        tally.add(NO_LINE_FEED);
+    }
+    let mut console = Console::default();
+    let mut history = History::default();
+    for line in lines(input) {
+        let mut printed = String::new();
+        console.line(line, &mut printed);
+        let command = parse(line);
+        match (&printed[..], command) {
+            (BAD_LINE, _) | (_, None) => tally.add(BAD_LINE.trim_end()),
+            (text, _) if text.starts_with("refused") => tally.add(text.trim_end()),
+            (_, Some(Command::Open([_, a, ..]))) => {
+                history.opened(a);
+                tally.add("open taken");
+            }
+            (
+                _,
+                Some(Command::Book {
+                    name,
+                    slot,
+                    parents,
+                }),
+            ) => {
+                history.booked(name, slot, &parents);
+                tally.add("book taken");
+            }
+            (_, Some(Command::Poll { name, votes })) => {
+                history.polled(name, &votes);
+                tally.add("poll taken");
+            }
+            (_, Some(Command::Read(reading, _))) => tally.add(format!("{} taken", reading.word())),
+            (text, Some(Command::List)) => {
+                let picture = Picture::of_list(text).ok_or("a list that is none")?;
+                let result = history.check(&picture);
+                result.map_err(|breach| format!("law {:?}: {}", breach.law, breach.said))?;
+                tally.add("list taken");
+                let accepted = picture.rows.iter().skip(1).filter(|row| row.is_accepted);
+                if accepted.count() > 0 {
+                    tally.add(ACCEPTED);
+                }
+                if picture.rows.len() == second::layout::BOOKINGS {
+                    tally.add(FULL);
+                }
+            }
+        }
+    }
+    Ok(())
+}
+
+const LONGEST_TAKEN: &str = "input of the longest length";
+const NO_LINE_FEED: &str = "input without a final line feed";
+const ACCEPTED: &str = "list with accepted bookings";
+const FULL: &str = "list of a full ledger";
+
+fn kind_seen(kind: Kind) -> String {
+    format!("input: {kind:?}")
+}
+
+fn flaw_seen(flaw: Flaw) -> String {
+    format!("flaw: {flaw:?}")
+}
+
+/// What inputs should have shown and did not. Refusal 1 cannot be had from
+/// text.
+pub fn missing(tally: &Tally) -> Vec<String> {
+    let kinds = Kind::ALL.into_iter().map(kind_seen);
+    let flaws = Flaw::ALL.into_iter().map(flaw_seen);
+    let refusals = (2..=Refusal::HIGHEST).map(|number| format!("refused {number}"));
+    let calls = crate::call::Call::KINDS.map(|kind| format!("{kind} taken"));
+    let others = [
+        "list taken",
+        BAD_LINE.trim_end(),
+        TOO_LONG.trim_end(),
+        LONGEST_TAKEN,
+        NO_LINE_FEED,
+        ACCEPTED,
+        FULL,
+    ];
+    let all = kinds.chain(flaws).chain(refusals).chain(calls);
+    tally.unseen(all.chain(others.map(String::from)))
+}
+
+/// A console with an error, to show that the comparison finds it: it reads
+/// other bytes than it was given.
+pub struct Misread {
+    pub name: &'static str,
+    pub read: fn(&[u8]) -> Vec<u8>,
+}
+
+impl Program for Misread {
+    fn output(&self, input: &[u8]) -> Result<Vec<u8>, String> {
+        Ok(run(&(self.read)(input)))
+    }
+}
+
+/// The planted consoles.
+pub const MISREAD: [Misread; 5] = [
+    Misread {
+        name: "CarriageReturnsAreDropped",
+        read: |input| input.iter().copied().filter(|&b| b != b'\r').collect(),
+    },
+    Misread {
+        name: "TabsAreSpaces",
+        read: |input| {
+            let swap = |&byte: &u8| if byte == b'\t' { b' ' } else { byte };
+            input.iter().map(swap).collect()
+        },
+    },
+    Misread {
+        name: "LongInputIsCut",
+        read: |input| input[..input.len().min(LONGEST)].to_vec(),
+    },
+    Misread {
+        name: "LastLineNeedsALineFeed",
+        read: |input| {
+            let end = input.iter().rposition(|&byte| byte == b'\n');
+            input[..end.map_or(0, |at| at + 1)].to_vec()
+        },
+    },
+    Misread {
+        name: "PlusSignsAreTaken",
+        read: |input| input.iter().copied().filter(|&b| b != b'+').collect(),
+    },
+];

@@ -1,0 +1,44 @@
+//! Random runs of the product against the second program.
+//!
+//! Chance:
+//! - `prng`: seeded numbers
+//! - `names`: booking names of several kinds
+//!
+//! Ledgers:
+//! - `grow`: ledgers that a history reaches
+//! - `scramble`: sound ledgers that no history reaches
+//! - `damage`: words that break a sentence of soundness
+//!
+//! Call against call:
+//! - `call`: a call, and who answers it
+//! - `choose`: a call that shows something on a given ledger
+//! - `guard`: lent memory with guard words around it
+//! - `compare`: the runs
+//! - `tally`: what the runs have reached
+//! - `station`: the product through its C face
+//! - `planted`: a copy of the rules with errors to be found
+//!
+//! Console against console:
+//! - `flaw`: lines that are no command
+//! - `text`: inputs of all kinds
+//! - `consoles`: the runs
+//!
+//! - `report`: a failing run, written out
+
+pub mod call;
+pub mod choose;
+pub mod compare;
+pub mod consoles;
+pub mod damage;
+pub mod flaw;
+pub mod grow;
+pub mod guard;
+pub mod names;
+pub mod planted;
+pub mod prng;
+pub mod report;
+pub mod scramble;
+#[cfg(feature = "station")]
+pub mod station;
+pub mod tally;
+pub mod text;

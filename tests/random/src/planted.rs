@@ -1,0 +1,226 @@
+//! A copy of the second program's rules with errors planted, to show that
+//! the comparison finds them. Without a plant it must find nothing.
+
+use crate::call::{Call, Face};
+use second::layout::{COUNTER, ENTRIES_START, ENTRY_WORDS, WORDS};
+use second::ledger::{read_vote, Ledger, Reading, State, Vote};
+use second::refusal::Refusal;
+use second::sound::{decode, encode, Broken};
+use second::words::Answer;
+use std::collections::BTreeMap;
+
+#[derive(Clone, Copy, Debug, PartialEq, Eq)]
+pub enum Plant {
+    NoTakesFromYes,
+    NoReadAsYes,
+    AncestorRaisedPerPath,
+    TieMovesPreference,
+    RaisedAfterComparing,
+    CounterRisesAlsoForNewLast,
+    AcceptedForBothRivals,
+    AcceptedWithoutParents,
+    EqualUnknownParentsAreTwice,
+    LongerWorkspaceTaken,
+    CounterBoundUntested,
+    RefusedPollMovesP,
+}
+
+impl Plant {
+    pub const ALL: [Plant; 12] = [
+        Plant::NoTakesFromYes,
+        Plant::NoReadAsYes,
+        Plant::AncestorRaisedPerPath,
+        Plant::TieMovesPreference,
+        Plant::RaisedAfterComparing,
+        Plant::CounterRisesAlsoForNewLast,
+        Plant::AcceptedForBothRivals,
+        Plant::AcceptedWithoutParents,
+        Plant::EqualUnknownParentsAreTwice,
+        Plant::LongerWorkspaceTaken,
+        Plant::CounterBoundUntested,
+        Plant::RefusedPollMovesP,
+    ];
+}
+
+/// The copy, with one error or none.
+pub struct Planted(pub Option<Plant>);
+
+impl Face for Planted {
+    fn call(&self, ws: &mut [u16], call: &Call) -> Answer {
+        match self.answer(ws, call) {
+            Ok(value) => (0, value),
+            Err(refusal) => (refusal.number(), 0),
+        }
+    }
+}
+
+impl Planted {
+    fn has(&self, plant: Plant) -> bool {
+        self.0 == Some(plant)
+    }
+
+    fn answer(&self, ws: &mut [u16], call: &Call) -> Result<i64, Refusal> {
+        let is_long = ws.len() > WORDS && self.has(Plant::LongerWorkspaceTaken);
+        if ws.len() != WORDS && !is_long {
+            return Err(Refusal::Length);
+        }
+        let ws = &mut ws[..WORDS];
+        if let Call::Open(setting) = call {
+            encode(&Ledger::open(*setting)?, ws);
+            return Ok(0);
+        }
+        let mut ledger = self.load(ws)?;
+        match call {
+            Call::Open(_) => unreachable!("openings are done"),
+            Call::Book {
+                name,
+                slot,
+                parents,
+            } => {
+                let result = ledger.book(*name, *slot, parents);
+                let is_swapped = self.has(Plant::EqualUnknownParentsAreTwice)
+                    && result == Err(Refusal::ParentUnknown)
+                    && (1..parents.len()).any(|i| parents[..i].contains(&parents[i]));
+                if is_swapped {
+                    return Err(Refusal::ParentTwice);
+                }
+                result?;
+                encode(&ledger, ws);
+                Ok(0)
+            }
+            Call::Poll { name, votes } => {
+                let result = self.poll(&mut ledger, *name, votes);
+                if result.is_ok() || self.has(Plant::RefusedPollMovesP) {
+                    encode(&ledger, ws);
+                }
+                result.map(|()| 0)
+            }
+            Call::Read(Reading::Accepted, name) => {
+                let b = ledger.number(*name)?;
+                Ok(i64::from(self.accepted(&ledger)[b]))
+            }
+            Call::Read(reading, name) => ledger.read(*reading, *name),
+        }
+    }
+
+    /// The test of soundness; the plant overlooks counters that are too high.
+    fn load(&self, ws: &[u16]) -> Result<Ledger, Refusal> {
+        match decode(ws) {
+            Err(Broken::CounterAboveChits) if self.has(Plant::CounterBoundUntested) => {
+                let mut mended = ws.to_vec();
+                for entry in mended[ENTRIES_START..].chunks_mut(ENTRY_WORDS) {
+                    entry[COUNTER] = 0;
+                }
+                decode(&mended).map_err(|_| Refusal::Unsound)
+            }
+            verdict => verdict.map_err(|_| Refusal::Unsound),
+        }
+    }
+
+    fn poll(&self, ledger: &mut Ledger, name: u64, votes: &[u8]) -> Result<(), Refusal> {
+        let b = ledger.number(name)?;
+        if ledger.bookings[b].state != State::Waiting {
+            return Err(Refusal::NotWaiting);
+        }
+        if self.has(Plant::RefusedPollMovesP) {
+            ledger.polls += 1;
+        }
+        if votes.len() != usize::from(ledger.setting.k) {
+            return Err(Refusal::VoteCount);
+        }
+        if votes.iter().any(|&byte| read_vote(byte).is_none()) {
+            return Err(Refusal::VoteByte);
+        }
+        if !self.has(Plant::RefusedPollMovesP) {
+            ledger.polls += 1;
+        }
+        ledger.bookings[b].ordinal = ledger.polls;
+        if self.yes(votes) < i64::from(ledger.setting.a) {
+            ledger.bookings[b].state = State::Polled;
+            return Ok(());
+        }
+        ledger.bookings[b].state = State::Chit;
+        let members = self.members(ledger, b);
+        if self.has(Plant::RaisedAfterComparing) {
+            self.follow(ledger, &members);
+            raise(ledger, &members);
+        } else {
+            raise(ledger, &members);
+            self.follow(ledger, &members);
+        }
+        Ok(())
+    }
+
+    fn yes(&self, votes: &[u8]) -> i64 {
+        votes
+            .iter()
+            .map(|&byte| match read_vote(byte) {
+                Some(Vote::Yes) => 1,
+                Some(Vote::No) if self.has(Plant::NoTakesFromYes) => -1,
+                Some(Vote::No) if self.has(Plant::NoReadAsYes) => 1,
+                _ => 0,
+            })
+            .sum()
+    }
+
+    /// The members of the ancestry, each with how much it is raised.
+    fn members(&self, ledger: &Ledger, b: usize) -> BTreeMap<usize, u16> {
+        let mut paths = BTreeMap::from([(b, 1u16)]);
+        for m in (0..=b).rev() {
+            let Some(&reached) = paths.get(&m) else {
+                continue;
+            };
+            for &parent in &ledger.bookings[m].parents {
+                let to_parent = paths.entry(parent).or_default();
+                *to_parent = to_parent.saturating_add(reached);
+            }
+        }
+        if !self.has(Plant::AncestorRaisedPerPath) {
+            paths.values_mut().for_each(|raise| *raise = 1);
+        }
+        paths
+    }
+
+    fn follow(&self, ledger: &mut Ledger, members: &BTreeMap<usize, u16>) {
+        for &m in members.keys() {
+            let confidence = ledger.bookings[m].confidence;
+            let slot = (ledger.slots)
+                .get_mut(&ledger.bookings[m].slot)
+                .expect("a booking's slot has bookings");
+            let preferred = ledger.bookings[slot.preferred].confidence;
+            let is_tie = confidence == preferred && self.has(Plant::TieMovesPreference);
+            if confidence > preferred || is_tie {
+                slot.preferred = m;
+            }
+            if slot.last == m {
+                slot.counter += 1;
+            } else {
+                slot.last = m;
+                slot.counter = u16::from(self.has(Plant::CounterRisesAlsoForNewLast));
+            }
+        }
+    }
+
+    /// Every booking's acceptance, parents before children.
+    fn accepted(&self, ledger: &Ledger) -> Vec<bool> {
+        let mut accepted = vec![true];
+        for (b, booking) in ledger.bookings.iter().enumerate().skip(1) {
+            let slot = ledger.slot_of(b);
+            let is_own = slot.preferred == b && slot.last == b;
+            let by_beta2 = slot.counter > ledger.setting.beta2
+                && (is_own || self.has(Plant::AcceptedForBothRivals));
+            let on_accepted = booking.parents.iter().all(|&parent| accepted[parent])
+                || self.has(Plant::AcceptedWithoutParents);
+            let by_beta1 = slot.counter > ledger.setting.beta1 && slot.bookings.len() == 1;
+            accepted.push(by_beta2 || by_beta1 && on_accepted);
+        }
+        accepted
+    }
+}
+
+fn raise(ledger: &mut Ledger, members: &BTreeMap<usize, u16>) {
+    for (&m, &raise) in members {
+        let confidence = &mut ledger.bookings[m].confidence;
+        *confidence = confidence.saturating_add(raise);
+    }
+}

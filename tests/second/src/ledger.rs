@@ -1,0 +1,307 @@
+//! The rules of the vote, on a ledger kept in maps.
+//!
+//! Nothing here knows of words or text. Refusals 3 to 13 are decided here,
+//! in the order of their table; 1 and 2 belong to whoever keeps the ledger.
+
+use crate::layout::{BOOKINGS, PARENTS, SLOTS};
+use crate::refusal::Refusal;
+use crate::setting::Setting;
+use std::collections::{BTreeMap, BTreeSet, HashMap};
+
+pub const GENESIS: usize = 0;
+
+#[derive(Clone, Copy, Debug, PartialEq, Eq)]
+pub enum State {
+    Waiting = 0,
+    Polled = 1,
+    Chit = 2,
+}
+
+#[derive(Clone, Debug, PartialEq, Eq)]
+pub struct Booking {
+    pub name: u64,
+    pub slot: u16,
+    /// Numbers of the parents, in the order given.
+    pub parents: Vec<usize>,
+    pub state: State,
+    pub confidence: u16,
+    pub ordinal: u16,
+}
+
+#[derive(Clone, Debug, PartialEq, Eq)]
+pub struct Slot {
+    pub preferred: usize,
+    pub last: usize,
+    pub counter: u16,
+    /// Every booking of the slot, in rising number.
+    pub bookings: Vec<usize>,
+}
+
+#[derive(Clone, Debug, PartialEq, Eq)]
+pub struct Ledger {
+    pub setting: Setting,
+    /// Polls taken.
+    pub polls: u16,
+    pub bookings: Vec<Booking>,
+    /// A booking's number by its name.
+    pub numbers: HashMap<u64, usize>,
+    /// Only the slots that have bookings.
+    pub slots: BTreeMap<u16, Slot>,
+}
+
+/// The readings, which change nothing.
+#[derive(Clone, Copy, Debug, PartialEq, Eq)]
+pub enum Reading {
+    Query,
+    Accepted,
+    Lead,
+    Confidence,
+    Size,
+}
+
+impl Reading {
+    pub const ALL: [Reading; 5] = [
+        Reading::Query,
+        Reading::Accepted,
+        Reading::Lead,
+        Reading::Confidence,
+        Reading::Size,
+    ];
+
+    pub fn word(self) -> &'static str {
+        match self {
+            Reading::Query => "query",
+            Reading::Accepted => "accepted",
+            Reading::Lead => "lead",
+            Reading::Confidence => "confidence",
+            Reading::Size => "size",
+        }
+    }
+}
+
+/// What a vote byte says, or nothing where the byte is refused.
+#[derive(Clone, Copy, Debug, PartialEq, Eq)]
+pub enum Vote {
+    Silent,
+    Yes,
+    No,
+}
+
+pub fn read_vote(byte: u8) -> Option<Vote> {
+    match byte {
+        0 => Some(Vote::Silent),
+        1 => Some(Vote::Yes),
+        2..=254 => None,
+        255 => Some(Vote::No),
+    }
+}
+
+impl Ledger {
+    /// A ledger with the genesis only.
+    pub fn open(setting: Setting) -> Result<Ledger, Refusal> {
+        if !setting.is_good() {
+            return Err(Refusal::Setting);
+        }
+        let genesis = Booking {
+            name: 0,
+            slot: 0,
+            parents: Vec::new(),
+            state: State::Polled,
+            confidence: 0,
+            ordinal: 0,
+        };
+        let own_slot = Slot {
+            preferred: GENESIS,
+            last: GENESIS,
+            counter: 0,
+            bookings: vec![GENESIS],
+        };
+        Ok(Ledger {
+            setting,
+            polls: 0,
+            bookings: vec![genesis],
+            numbers: HashMap::from([(0, GENESIS)]),
+            slots: BTreeMap::from([(0, own_slot)]),
+        })
+    }
+
+    pub fn book(&mut self, name: u64, slot: u16, parents: &[u64]) -> Result<(), Refusal> {
+        if self.numbers.contains_key(&name) {
+            return Err(Refusal::NameBooked);
+        }
+        if slot == 0 || usize::from(slot) >= SLOTS {
+            return Err(Refusal::Slot);
+        }
+        if parents.is_empty() || parents.len() > PARENTS {
+            return Err(Refusal::ParentCount);
+        }
+        // Every parent is looked up before any is compared with another.
+        let mut found = Vec::with_capacity(parents.len());
+        for parent in parents {
+            let Some(&number) = self.numbers.get(parent) else {
+                return Err(Refusal::ParentUnknown);
+            };
+            found.push(number);
+        }
+        if found.iter().collect::<BTreeSet<_>>().len() < found.len() {
+            return Err(Refusal::ParentTwice);
+        }
+        if self.bookings.len() == BOOKINGS {
+            return Err(Refusal::Full);
+        }
+
+        let number = self.bookings.len();
+        self.bookings.push(Booking {
+            name,
+            slot,
+            parents: found,
+            state: State::Waiting,
+            confidence: 0,
+            ordinal: 0,
+        });
+        self.numbers.insert(name, number);
+        // The first booking of a slot is preferred and last; a later one
+        // only stands beside it.
+        self.slots
+            .entry(slot)
+            .or_insert(Slot {
+                preferred: number,
+                last: number,
+                counter: 0,
+                bookings: Vec::new(),
+            })
+            .bookings
+            .push(number);
+        Ok(())
+    }
+
+    pub fn poll(&mut self, name: u64, votes: &[u8]) -> Result<(), Refusal> {
+        let b = self.number(name)?;
+        if self.bookings[b].state != State::Waiting {
+            return Err(Refusal::NotWaiting);
+        }
+        if votes.len() != usize::from(self.setting.k) {
+            return Err(Refusal::VoteCount);
+        }
+        let Some(votes) = votes
+            .iter()
+            .map(|&byte| read_vote(byte))
+            .collect::<Option<Vec<_>>>()
+        else {
+            return Err(Refusal::VoteByte);
+        };
+
+        self.polls += 1;
+        self.bookings[b].ordinal = self.polls;
+        // Only yes votes are counted: a no takes nothing away.
+        let yes = votes.iter().filter(|&&vote| vote == Vote::Yes).count();
+        if yes < usize::from(self.setting.a) {
+            self.bookings[b].state = State::Polled;
+            return Ok(());
+        }
+        self.bookings[b].state = State::Chit;
+        let ancestry = self.ancestry(b);
+        // All confidences rise before any two are compared.
+        for &m in &ancestry {
+            self.bookings[m].confidence += 1;
+        }
+        for &m in &ancestry {
+            self.follow(m);
+        }
+        Ok(())
+    }
+
+    /// A member of a successful poll's ancestry moves its slot: first the
+    /// preference, by strictly more confidence, then last and counter.
+    fn follow(&mut self, m: usize) {
+        let slot = self
+            .slots
+            .get_mut(&self.bookings[m].slot)
+            .expect("a booking's slot has bookings");
+        if self.bookings[m].confidence > self.bookings[slot.preferred].confidence {
+            slot.preferred = m;
+        }
+        if slot.last == m {
+            slot.counter += 1;
+        } else {
+            slot.last = m;
+            slot.counter = 0;
+        }
+    }
+
+    pub fn read(&self, reading: Reading, name: u64) -> Result<i64, Refusal> {
+        let b = self.number(name)?;
+        Ok(match reading {
+            Reading::Query => i64::from(self.ancestry(b).iter().all(|&m| self.is_preferred(m))),
+            Reading::Accepted => i64::from(self.is_accepted(b, &mut HashMap::new())),
+            Reading::Lead => self.lead(b),
+            Reading::Confidence => i64::from(self.bookings[b].confidence),
+            Reading::Size => self.ancestry(b).len() as i64,
+        })
+    }
+
+    /// The number of the booking with this name.
+    pub fn number(&self, name: u64) -> Result<usize, Refusal> {
+        self.numbers.get(&name).copied().ok_or(Refusal::NameUnknown)
+    }
+
+    /// The booking itself and all that is reached through parents, once each.
+    pub fn ancestry(&self, b: usize) -> BTreeSet<usize> {
+        let mut members = BTreeSet::new();
+        self.gather(b, &mut members);
+        members
+    }
+
+    fn gather(&self, m: usize, members: &mut BTreeSet<usize>) {
+        if members.insert(m) {
+            for &parent in &self.bookings[m].parents {
+                self.gather(parent, members);
+            }
+        }
+    }
+
+    pub fn slot_of(&self, b: usize) -> &Slot {
+        &self.slots[&self.bookings[b].slot]
+    }
+
+    pub fn is_preferred(&self, b: usize) -> bool {
+        self.slot_of(b).preferred == b
+    }
+
+    /// The genesis is accepted. Another booking is accepted by its slot's
+    /// counter above β1 if it stands alone on accepted parents, or by the
+    /// counter above β2 if the counter is its own: preferred and last.
+    /// `known` keeps what was decided, for bookings reached by several paths.
+    pub fn is_accepted(&self, b: usize, known: &mut HashMap<usize, bool>) -> bool {
+        if b == GENESIS {
+            return true;
+        }
+        if let Some(&decided) = known.get(&b) {
+            return decided;
+        }
+        let slot = self.slot_of(b);
+        let own = slot.preferred == b && slot.last == b && slot.counter > self.setting.beta2;
+        let alone = slot.bookings.len() == 1 && slot.counter > self.setting.beta1;
+        let decided = own
+            || alone
+                && self.bookings[b]
+                    .parents
+                    .iter()
+                    .all(|&parent| self.is_accepted(parent, known));
+        known.insert(b, decided);
+        decided
+    }
+
+    /// Confidence over the best rival's, or over 0 without rivals.
+    fn lead(&self, b: usize) -> i64 {
+        let best_rival = self
+            .slot_of(b)
+            .bookings
+            .iter()
+            .filter(|&&rival| rival != b)
+            .map(|&rival| self.bookings[rival].confidence)
+            .max()
+            .unwrap_or(0);
+        i64::from(self.bookings[b].confidence) - i64::from(best_rival)
+    }
+}

@@ -1,0 +1,25 @@
+//! The second program: a ledger of bookings written from the rules alone.
+//!
+//! It shares no code and no plan with the product. The product works on the
+//! lent words in place, with sweeps and marks; this program reads the words
+//! into maps, walks ancestries by recursion, and writes the words back.
+//!
+//! - `layout`: where each word of the workspace stands
+//! - `setting`: k, a, β1, β2, and which are good
+//! - `refusal`: the numbered refusals
+//! - `ledger`: the rules of the vote, on maps
+//! - `sound`: words to a ledger, naming the sentence of soundness they break
+//! - `words`: the public calls on lent words
+//! - `command`: a line of text to a command
+//! - `console`: the text program
+//! - `laws`: what must hold after every history, checked from outside
+
+pub mod command;
+pub mod console;
+pub mod laws;
+pub mod layout;
+pub mod ledger;
+pub mod refusal;
+pub mod setting;
+pub mod sound;
+pub mod words;

@@ -1,0 +1,81 @@
+//! The public calls on lent words: the number given back, and the value.
+//!
+//! Every call reads the words into a ledger, works there, and writes the
+//! whole ledger back only when it was taken. So a refused call changes none.
+
+use crate::layout::WORDS;
+use crate::ledger::{Ledger, Reading};
+use crate::refusal::Refusal;
+use crate::setting::Setting;
+use crate::sound::{decode, encode};
+
+/// A number, 0 for a taken call, and a value, 0 for a refused one.
+pub type Answer = (u32, i64);
+
+fn answer(result: Result<i64, Refusal>) -> Answer {
+    match result {
+        Ok(value) => (0, value),
+        Err(refusal) => (refusal.number(), 0),
+    }
+}
+
+/// Refusals 1 and 2 come before all others.
+fn load(ws: &[u16]) -> Result<Ledger, Refusal> {
+    if ws.len() != WORDS {
+        return Err(Refusal::Length);
+    }
+    decode(ws).map_err(|_| Refusal::Unsound)
+}
+
+/// Opening looks at the length and the setting, never at the old words.
+pub fn open(ws: &mut [u16], k: u16, a: u16, beta1: u16, beta2: u16) -> Answer {
+    let setting = Setting { k, a, beta1, beta2 };
+    answer((|| {
+        if ws.len() != WORDS {
+            return Err(Refusal::Length);
+        }
+        encode(&Ledger::open(setting)?, ws);
+        Ok(0)
+    })())
+}
+
+pub fn book(ws: &mut [u16], name: u64, slot: u16, parents: &[u64]) -> Answer {
+    change(ws, |ledger| ledger.book(name, slot, parents))
+}
+
+pub fn poll(ws: &mut [u16], name: u64, votes: &[u8]) -> Answer {
+    change(ws, |ledger| ledger.poll(name, votes))
+}
+
+fn change(ws: &mut [u16], step: impl FnOnce(&mut Ledger) -> Result<(), Refusal>) -> Answer {
+    answer((|| {
+        let mut ledger = load(ws)?;
+        step(&mut ledger)?;
+        encode(&ledger, ws);
+        Ok(0)
+    })())
+}
+
+pub fn read(ws: &[u16], reading: Reading, name: u64) -> Answer {
+    answer(load(ws).and_then(|ledger| ledger.read(reading, name)))
+}
+
+pub fn query(ws: &[u16], name: u64) -> Answer {
+    read(ws, Reading::Query, name)
+}
+
+pub fn accepted(ws: &[u16], name: u64) -> Answer {
+    read(ws, Reading::Accepted, name)
+}
+
+pub fn lead(ws: &[u16], name: u64) -> Answer {
+    read(ws, Reading::Lead, name)
+}
+
+pub fn confidence(ws: &[u16], name: u64) -> Answer {
+    read(ws, Reading::Confidence, name)
+}
+
+pub fn size(ws: &[u16], name: u64) -> Answer {
+    read(ws, Reading::Size, name)
+}

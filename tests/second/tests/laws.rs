@@ -1,0 +1,84 @@
+//! The laws hold after Run, and each can be broken.
+
+mod ledgers;
+use ledgers::*;
+use second::console;
+use second::laws::*;
+use second::layout::*;
+use second::words;
+
+/// Run as a history.
+fn run_history() -> History {
+    let mut history = History::default();
+    history.opened(2);
+    history.booked(1, 7, &[0]);
+    history.booked(2, 7, &[0]);
+    history.booked(3, 9, &[1]);
+    history.booked(4, 10, &[1, 2]);
+    history.polled(2, &[1, 1, 255]);
+    history.polled(3, &[1, 0, 0]);
+    history.polled(4, &[1, 1, 1]);
+    history.polled(1, &[1, 1, 0]);
+    history
+}
+
+fn picture(ws: &[u16]) -> Picture {
+    Picture::of_words(ws, |name| words::accepted(ws, name) == (0, 1))
+}
+
+fn broken_law(change: impl FnOnce(&mut Picture)) -> Option<Law> {
+    let mut picture = picture(&run_polled(4));
+    change(&mut picture);
+    run_history().check(&picture).err().map(|breach| breach.law)
+}
+
+#[test]
+fn run_keeps_every_law() {
+    assert_eq!(broken_law(|_| ()), None);
+    assert_eq!(run_history().summed_sizes(), 8);
+}
+
+#[test]
+fn a_list_shows_the_same_picture() {
+    let input = format!("{RUN_BOOKINGS}{RUN_POLLS}list\n");
+    let text = String::from_utf8(console::run(input.as_bytes())).unwrap();
+    assert_eq!(Picture::of_list(&text), Some(picture(&run_polled(4))));
+}
+
+#[test]
+fn an_opening_starts_afresh() {
+    let mut history = run_history();
+    history.opened(1);
+    let ws = opened(1, 1, 1, 2);
+    assert_eq!(history.check(&picture(&ws)), Ok(()));
+}
+
+#[test]
+fn each_law_can_be_broken() {
+    let broken = broken_law(|picture| picture.rows[3].slot = 8);
+    assert_eq!(broken, Some(Law::Bookings));
+    let broken = broken_law(|picture| picture.polls = 3);
+    assert_eq!(broken, Some(Law::Polls));
+    let broken = broken_law(|picture| picture.rows[4].is_polled = false);
+    assert_eq!(broken, Some(Law::Polls));
+    let broken = broken_law(|picture| picture.rows[0].confidence = 4);
+    assert_eq!(broken, Some(Law::Confidence));
+    let broken = broken_law(|picture| {
+        picture.rows[1].is_accepted = true;
+        picture.rows[2].is_accepted = true;
+    });
+    assert_eq!(broken, Some(Law::AcceptedOnce));
+    let broken = broken_law(|picture| picture.rows[1].is_preferred = true);
+    assert_eq!(broken, Some(Law::Preferred));
+}
+
+/// The laws that a true confidence implies, each by itself.
+#[test]
+fn total_and_preferred_by_themselves() {
+    let mut ws = run_polled(4);
+    assert_eq!(check_total(&picture(&ws).rows, 8), Ok(()));
+    assert!(check_total(&picture(&ws).rows, 7).is_err());
+    assert_eq!(check_preferred(&picture(&ws).rows), Ok(()));
+    ws[record(1) + CONFIDENCE] = 3;
+    assert!(check_preferred(&picture(&ws).rows).is_err());
+}

@@ -1,0 +1,95 @@
+//! Ledgers that several tests start from.
+#![allow(dead_code)]
+
+use second::layout::*;
+use second::words;
+
+/// The lines of Run before its polls, and its polls.
+pub const RUN_BOOKINGS: &str = "open 3 2 1 2\n\
+    book 1 7 0\n\
+    book 2 7 0\n\
+    book 3 9 1\n\
+    book 4 10 1 2\n";
+pub const RUN_POLLS: &str = "poll 2 1 1 -1\n\
+    poll 3 1 0 0\n\
+    poll 4 1 1 1\n\
+    poll 1 1 1 0\n";
+
+/// A workspace opened with the setting.
+pub fn opened(k: u16, a: u16, beta1: u16, beta2: u16) -> Vec<u16> {
+    let mut ws = vec![0; WORDS];
+    assert_eq!(words::open(&mut ws, k, a, beta1, beta2), (0, 0));
+    ws
+}
+
+/// A booking that must be taken.
+pub fn must_book(ws: &mut [u16], name: u64, slot: u16, parents: &[u64]) {
+    assert_eq!(words::book(ws, name, slot, parents), (0, 0));
+}
+
+/// A poll that must be taken.
+pub fn must_poll(ws: &mut [u16], name: u64, votes: &[u8]) {
+    assert_eq!(words::poll(ws, name, votes), (0, 0));
+}
+
+/// Run before any poll.
+pub fn run_booked() -> Vec<u16> {
+    let mut ws = opened(3, 2, 1, 2);
+    must_book(&mut ws, 1, 7, &[0]);
+    must_book(&mut ws, 2, 7, &[0]);
+    must_book(&mut ws, 3, 9, &[1]);
+    must_book(&mut ws, 4, 10, &[1, 2]);
+    ws
+}
+
+/// Run after its first `count` polls.
+pub fn run_polled(count: usize) -> Vec<u16> {
+    let polls: [(u64, [u8; 3]); 4] = [
+        (2, [1, 1, 255]),
+        (3, [1, 0, 0]),
+        (4, [1, 1, 1]),
+        (1, [1, 1, 0]),
+    ];
+    let mut ws = run_booked();
+    for (name, votes) in &polls[..count] {
+        must_poll(&mut ws, *name, votes);
+    }
+    ws
+}
+
+/// A chain of `n` bookings, names and numbers alike, each in a slot of its
+/// own as long as there are slots.
+pub fn chain(n: u64) -> Vec<u16> {
+    let mut ws = opened(1, 1, 1, 2);
+    for name in 1..n {
+        must_book(&mut ws, name, 1 + (name as u16 - 1) % 255, &[name - 1]);
+    }
+    ws
+}
+
+pub fn record_word(ws: &[u16], b: usize, field: usize) -> u16 {
+    ws[record(b) + field]
+}
+
+pub fn entry_words(ws: &[u16], s: usize) -> &[u16] {
+    &ws[entry(s)..entry(s + 1)]
+}
+
+/// The confidences of all bookings in rising number.
+pub fn confidences(ws: &[u16]) -> Vec<u16> {
+    (0..usize::from(ws[N]))
+        .map(|b| record_word(ws, b, CONFIDENCE))
+        .collect()
+}
+
+/// A reading of names 1 and up, which must be taken.
+pub fn readings<const NAMES: usize>(
+    ws: &[u16],
+    reading: fn(&[u16], u64) -> (u32, i64),
+) -> [i64; NAMES] {
+    std::array::from_fn(|i| {
+        let (number, value) = reading(ws, i as u64 + 1);
+        assert_eq!(number, 0);
+        value
+    })
+}
