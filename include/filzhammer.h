@@ -67,10 +67,10 @@ extern "C" {
 #define FILZ_RECORD_ORDINAL 11 /* which poll it was, from 1; 0 before it */
 
 /* Words of a slot entry. */
-#define FILZ_SLOT_PREFERRED 0
-#define FILZ_SLOT_LAST 1
-#define FILZ_SLOT_COUNTER 2
-#define FILZ_SLOT_BOOKINGS 3
+#define FILZ_SLOT_PREFERRED 0 /* the number of the booking that this station stands for */
+#define FILZ_SLOT_LAST 1      /* the number of the booking that a successful poll raised last */
+#define FILZ_SLOT_COUNTER 2   /* how often it was raised again since it became last */
+#define FILZ_SLOT_BOOKINGS 3  /* how many bookings the slot has */
 
 /* Votes. Every byte from 2 to 254 is refused. */
 #define FILZ_SILENT 0
@@ -104,8 +104,7 @@ enum filz_number {
 /*
  * Makes the words a ledger that has only the genesis, whatever they were before.
  *
- * k is how many votes a poll has and a how many of them must be yes; beta1 and beta2 say how often in a row a booking
- * has to win before it is accepted, without and with rivals.
+ * k is how many votes a poll has and a how many of them must be yes; beta1 and beta2 are what filz_accepted compares with.
  *
  * Refuses, in this order: FILZ_WRONG_LENGTH, FILZ_BAD_SETTING.
  */
@@ -123,8 +122,8 @@ uint32_t filz_book(uint16_t *ws, size_t words, uint64_t name, uint16_t slot, con
 
 /*
  * Enters the completed poll of a waiting booking, one byte for each of the k stations asked. It succeeds if at least a of
- * them are yes; no and silence count alike. Then the booking and all it rests on gain one confidence each, and each of
- * them becomes preferred in its slot if it is now strictly ahead there. A failed poll only marks the booking as polled.
+ * them are yes; no and silence count alike. Then every member of its ancestry, itself too, gains one confidence, and those
+ * strictly ahead of their slot's preferred booking take its place. A failed poll only marks the booking as polled.
  * A booking is polled once.
  *
  * Refuses, in this order: FILZ_WRONG_LENGTH, FILZ_NOT_SOUND, FILZ_UNKNOWN_NAME, FILZ_NOT_WAITING, FILZ_WRONG_VOTES,
@@ -141,7 +140,11 @@ uint32_t filz_poll(uint16_t *ws, size_t words, uint64_t name, const uint8_t *vot
 /* 1 if every member of the ancestry is preferred in its slot, else 0: how this station votes when it is asked. */
 uint32_t filz_query(const uint16_t *ws, size_t words, uint64_t name, int64_t *value);
 
-/* 1 if the booking is accepted, else 0. Of the bookings of one slot at most one is accepted at a time. */
+/*
+ * 1 if the booking is accepted, else 0. The genesis is. Another booking is if it is alone in its slot, all its parents are
+ * accepted and the slot's counter is above beta1; or if it is both preferred and last in its slot and the counter is above
+ * beta2. Of the bookings of one slot at most one is accepted at a time.
+ */
 uint32_t filz_accepted(const uint16_t *ws, size_t words, uint64_t name, int64_t *value);
 
 /* How far it is ahead of its best rival: its confidence, less the greatest of the slot's others (or less 0), -511 to 511. */
