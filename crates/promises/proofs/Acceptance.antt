@@ -19,7 +19,8 @@ use Rattle.rules.specs.Book.{lookUp, numberOf}
 use Rattle.rules.specs.Calls.{acceptedCall}
 use Rattle.rules.specs.Sound.{Sound, Ledger}
 use Rattle.rules.proofs.Lookup.{found-is}
-use Rattle.rules.proofs.Accepted.{FirstArm, SecondArm, accepted-is}
+use Rattle.rules.specs.Told.{FirstArm, SecondArm}
+use Rattle.rules.proofs.Accepted.{accepted-is}
 use Rattle.promises.specs.Acceptance.{AcceptedOnce, AcceptedCallOnce}
 use Rattle.promises.proofs.Taken.{reading-taken}
 

@@ -23,3 +23,4 @@ pub mod Polled
 pub mod Run
 pub mod Kept
 pub mod OfCode
+pub mod Told

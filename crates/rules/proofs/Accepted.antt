@@ -18,21 +18,8 @@ use Rattle.rules.specs.Layout.{mostBookings, mostParents, none, bookings
 use Rattle.rules.specs.Ancestry.{Parent, isMember, mark, unmarked}
 use Rattle.rules.specs.Readings.{parentsAccepted, firstArm, secondArm, acceptOne, acceptedBelow, acceptedOf}
 use Rattle.rules.specs.Sound.{Sound}
+use Rattle.rules.specs.Told.{FirstArm, SecondArm}
 use Rattle.rules.proofs.Ancestry.{length-unmarked, unmarked-zero, Parent-lt}
-
--- ---- the sentence
-
--- all parents are accepted, the slot has one booking and its counter is above β1
-pub record FirstArm (w : List ℕ) (i : ℕ) : Type 0 where
-  pub parents : (p : ℕ) → Parent w i p → acceptedOf w p ≡ true
-  pub alone : heldIn w (slotOf w i) ≡ 1
-  pub counter : settingIn w .beta1 < counterIn w (slotOf w i)
-
--- the booking is both preferred and last in its slot and the counter is above β2
-pub record SecondArm (w : List ℕ) (i : ℕ) : Type 0 where
-  pub preferred : preferredIn w (slotOf w i) ≡ i
-  pub last : lastIn w (slotOf w i) ≡ i
-  pub counter : settingIn w .beta2 < counterIn w (slotOf w i)
 
 -- ---- tests
 

@@ -17,6 +17,7 @@ use Rattle.rules.specs.IsSound.{chits}
 use Rattle.rules.specs.Ancestry.{Reaches, isMember, ancestry}
 use Rattle.rules.specs.Sound.{Sound, BookingOf}
 use Rattle.rules.specs.Readings.{isPreferred, queryOf, acceptedOf, isRival, rivalConfidence, rivalsMost, leadOf, sizeOf}
+use Rattle.rules.specs.Told.{Rival, MostOfRivals}
 use Rattle.rules.proofs.Ancestry.{Reaches-le, marks→Reaches, Reaches→marks, member-self}
 
 -- 511: what a confidence, a counter and a lead can reach
@@ -39,16 +40,6 @@ if-so true b = (λ e t. e, λ f. f refl)
 if-so false b = (λ e t. absurd (true≢false (sym t)), λ f. refl)
 
 -- ---- lead: what is taken away, on any words
-
--- j is another booking of i's slot
-pub record Rival (w : List ℕ) (i j : ℕ) : Type 0 where
-  pub inSlot : BookingOf w (slotOf w i) j
-  pub another : j ≢ i
-
--- m is the greatest confidence among the slot's other bookings, or 0 if there are none
-pub record MostOfRivals (w : List ℕ) (i m : ℕ) : Type 0 where
-  pub above : (j : ℕ) → Rival w i j → confidenceOf w j ≤ m
-  pub held : (m ≡ 0) ⊎ ((j : ℕ) × Rival w i j × (confidenceOf w j ≡ m))
 
 pub rivalsMost-is : (w : List ℕ) (i : ℕ) → MostOfRivals w i (rivalsMost w i)
 unfolding rivalsMost
