@@ -5,3 +5,4 @@ pub mod Split
 pub mod Walk
 pub mod Leading
 pub mod Grammar
+pub mod Whole

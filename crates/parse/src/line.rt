@@ -9,10 +9,22 @@ use crate::step::next_number;
 use rules::setting::Setting;
 ghost use mathlib.Core.Path.{_≡_};
 ghost use lib.ListN.{length};
-ghost use lib.Seq.{sets};
 ghost use Prim.Native.Nat.{_≤_};
 ghost use Rattle.parse.specs.Words.{wordsAfter};
-ghost use Rattle.parse.specs.Line.{AllShort, bookSays, openSays, pollSays, readSays, settingOf};
+ghost use Rattle.parse.specs.Lists.{parentsMost, votesMost};
+ghost use Rattle.parse.specs.Line.{
+  AllShort,
+  Booked,
+  Polled,
+  bookSays,
+  bookWith,
+  nothing,
+  openSays,
+  pollSays,
+  pollWith,
+  readSays,
+  settingOf,
+};
 
 // The largest name.
 const NAME_MOST: u64 = 18446744073709551615;
@@ -57,4 +69,58 @@ pub(crate) fn read_reading(line: &[u8], at: usize, reading: Reading) -> Command
         return Command::Bad;
     }
     Command::Read { reading, name }
+}
+
+fn book_with(name: u64, slot: u16, many: Many) -> Command
+    ensures { λ r. ⌜ r ≡ bookWith name slot many ⌝ }
+{
+    match many {
+        Many::Count(count) => Command::Book { name, slot, count },
+        Many::Refused => Command::Bad,
+    }
+}
+
+pub(crate) fn read_book(line: &[u8], at: usize, parents: &mut [u64]) -> Command
+    requires { ⌜ length (now parents) ≡ parentsMost ⌝ }
+    ensures { λ r. ⌜ Booked (bookSays (wordsAfter (now (line .entry)) at)) (now (parents .entry)) r (now (parents .exit)) ⌝ }
+{
+    let Step::Next(name, after_name) = next_number(line, at, NAME_MOST) else {
+        return Command::Bad;
+    };
+    let Step::Next(slot, after_slot) = next_number(line, after_name, SHORT_MOST) else {
+        return Command::Bad;
+    };
+    book_with(
+        name,
+        slot as u16,
+        read_numbers(line, after_slot, NAME_MOST, parents),
+    )
+}
+
+fn poll_with(name: u64, many: Many) -> Command
+    ensures { λ r. ⌜ r ≡ pollWith name many ⌝ }
+{
+    match many {
+        Many::Count(count) => Command::Poll { name, count },
+        Many::Refused => Command::Bad,
+    }
+}
+
+pub(crate) fn read_poll(line: &[u8], at: usize, votes: &mut [u8]) -> Command
+    requires { ⌜ length (now votes) ≡ votesMost ⌝ }
+    ensures { λ r. ⌜ Polled (pollSays (wordsAfter (now (line .entry)) at)) (now (votes .entry)) r (now (votes .exit)) ⌝ }
+{
+    let Step::Next(name, end) = next_number(line, at, NAME_MOST) else {
+        return Command::Bad;
+    };
+    poll_with(name, read_votes(line, end, votes))
+}
+
+pub(crate) fn read_list(line: &[u8], at: usize) -> Command
+    ensures { λ r. ⌜ r ≡ nothing Command.Bad (wordsAfter (now (line .entry)) at) Command.List ⌝ }
+{
+    if at < line.len() {
+        return Command::Bad;
+    }
+    Command::List
 }
