@@ -35,6 +35,6 @@ parentsAnswer w parents =
     (cond (eqb (bookings w) mostBookings) (Refused Full)
     done))
 
--- what they and the booking leave
+-- a refusal leaves every word, and a taken call the booking
 unfoldable pub parentsCall : List ℕ → ℕ → ℕ → List ℕ → Outcome
 parentsCall w name slot parents = leaves (parentsAnswer w parents) w (booked w name slot parents)
