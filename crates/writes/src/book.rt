@@ -13,7 +13,7 @@ ghost use Rattle.rules.specs.Answers.{outcome};
 ghost use Rattle.rules.specs.Sound.{Ledger};
 ghost use Rattle.rules.specs.Book.{lookUp, isFound};
 ghost use Rattle.rules.specs.Calls.{bookCall};
-ghost use Rattle.writes.specs.Parents.{Looked, parentsCall};
+ghost use Rattle.writes.specs.Parents.{Looked, isRefusal, parentsCall};
 
 // The name is already booked.
 fn is_booked(w: &[u16], name: u64) -> bool
@@ -40,18 +40,28 @@ fn look_parents(w: &[u16], parents: &[u64], numbers: &mut [u16; layout::MOST_PAR
     Answer::Taken(0)
 }
 
+fn is_refusal(answer: Answer) -> bool
+    ensures { λ r. ⌜ r ≡ isRefusal answer ⌝ }
+{
+    match answer {
+        Answer::Taken(_) => false,
+        Answer::Refused(_) => true,
+    }
+}
+
 // What refusals 7, 8 and 9 ask is asked first; then the first that applies is given, or the booking is written.
 fn book_parents(w: &mut [u16], name: u64, slot: u16, parents: &[u64]) -> Answer
     requires { ⌜ Ledger (now w) × (slot < slots) × (length (now parents) ≤ mostParents) ⌝ }
     ensures { λ r. ⌜ outcome r (now (w .exit)) ≡ parentsCall (now (w .entry)) name slot (now (parents .entry)) ⌝ }
 {
     let mut numbers = [layout::NONE; layout::MOST_PARENTS];
+    let looked = look_parents(w, parents, &mut numbers);
+    let unknown = is_refusal(looked);
     let twice = naming::has_twice(parents);
     let full = readings::booking::how_many(w) == layout::MOST_BOOKINGS;
-    let looked = look_parents(w, parents, &mut numbers);
-    let Answer::Taken(_) = looked else {
+    if unknown {
         return looked;
-    };
+    }
     if twice {
         return Answer::Refused(Refusal::ParentTwice);
     }
