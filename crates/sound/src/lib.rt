@@ -1,8 +1,8 @@
 // Is a workspace sound: the passes over its rows. Every pass is linear but for names, which are compared with all lower ones.
-pub mod entries;
-pub mod held;
-pub mod ordinals;
-pub mod records;
+mod entries;
+mod held;
+mod ordinals;
+mod records;
 
 use rules::layout;
 ghost use mathlib.Core.Path.{_≡_};

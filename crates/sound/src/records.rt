@@ -1,5 +1,6 @@
 // The records.
 use crate::ordinals;
+use rows::record;
 use rules::layout;
 ghost use mathlib.Core.Path.{_≡_};
 ghost use mathlib.Core.Bool.{not, _||_};
@@ -19,7 +20,7 @@ pub fn chits(w: &[u16], n: usize) -> usize
 {
     let mut found = 0;
     for i in 0..n {
-        found += rows::record::chit(w, i);
+        found += record::chit(w, i);
     }
     found
 }
@@ -43,13 +44,13 @@ fn booking_good(w: &[u16], i: usize, marks: &[u8]) -> bool
     requires { ⌜ (length (now w) ≡ size) × (i < mostBookings) × (polls (now w) < mostBookings) × (now marks ≡ ordinalsBelow (now w) i) ⌝ }
     ensures { λ r. ⌜ r ≡ bookingGood (now (w .entry)) i ⌝ }
 {
-    let s = words::wide(words::get(w, i, layout::SLOT));
-    let o = words::wide(words::get(w, i, layout::ORDINAL));
+    let s = record::word(w, i, layout::SLOT);
+    let o = record::word(w, i, layout::ORDINAL);
     name_new(w, i)
         & (1 <= s)
         & (s < layout::SLOTS)
-        & rows::record::parents_good(w, i)
-        & rows::record::state_good(w, i)
+        & record::parents_good(w, i)
+        & record::state_good(w, i)
         & ((o == 0) | !ordinals::is_marked(marks, o))
 }
 
@@ -59,9 +60,9 @@ fn record_good(w: &[u16], i: usize, most: usize, marks: &[u8]) -> bool
     requires { ⌜ most ≡ chits (now w) ⌝ }
     ensures { λ r. ⌜ r ≡ recordGood (now (w .entry)) i ⌝ }
 {
-    let confidence = words::wide(words::get(w, i, layout::CONFIDENCE));
+    let confidence = record::word(w, i, layout::CONFIDENCE);
     if i == 0 {
-        return rows::record::genesis_good(w) & (confidence <= most);
+        return record::genesis_good(w) & (confidence <= most);
     }
     booking_good(w, i, marks) & (confidence <= most)
 }
@@ -76,7 +77,7 @@ fn bad_record(w: &[u16], n: usize, most: usize, marks: &mut [u8]) -> usize
         if !record_good(w, i, most, marks) {
             return i;
         }
-        let o = words::wide(words::get(w, i, layout::ORDINAL));
+        let o = record::word(w, i, layout::ORDINAL);
         ordinals::mark(marks, o);
     }
     n
@@ -88,7 +89,7 @@ fn stray_record(w: &[u16], n: usize) -> usize
     ensures { λ r. ⌜ r ≡ first (λ i. not (ltb i (bookings (now (w .entry))) || recordZero (now (w .entry)) i)) mostBookings ⌝ }
 {
     for i in n..layout::MOST_BOOKINGS {
-        if !rows::record::record_zero(w, i) {
+        if !record::record_zero(w, i) {
             return i;
         }
     }

@@ -3,7 +3,6 @@ use Prim.Native.Nat.{_≤_, _-_}
 use mathlib.Core.Path.{_≡_, sym, ap, _∙_}
 use mathlib.Core.Bool.{not}
 use native.Mathlib.Omega.{arith}
-use borrow.Author.Needs.{needs}
 use borrow.Author.Tests.{not-true, not-false}
 use Rattle.loops.proofs.Search.{Searched, search-start, search-hit, search-miss, search-over}
 use Rattle.rules.specs.IsSound.{recordGood}
@@ -38,15 +37,12 @@ bad c =
     let L = c .before .before .before .before .loop in
     (sym (search-hit _ _ _ (L .inv .2) (omega arith) (ap not (sym (c .before .record-good .ensures) ∙ not-true _ (c .if1 .taken)))), L .inv .1)
 
-get-requires : tie.Need-get-requires Inv-loop μ-loop
-get-requires c κs = omega arith
-
-wide-requires : tie.Need-wide-requires Inv-loop μ-loop
-wide-requires c κs = search needs
+word-requires : tie.Need-word-requires Inv-loop μ-loop
+word-requires c κs = omega arith
 
 mark-requires : tie.Need-mark-requires Inv-loop μ-loop
 mark-requires c κs =
-    let L = c .before .before .before .before .before .before .before in
+    let L = c .before .before .before .before .before .before in
     rw (L .loop .inv .1) (ordinalsBelow-length (L .before .before .before .args .w .now) (L .loop .i))
 
 add-i : tie.Need-add-i Inv-loop μ-loop
@@ -58,9 +54,9 @@ loop-less c = omega arith
 loop-again : tie.Need-loop-again Inv-loop μ-loop
 loop-again c =
     let M = c .before .before in
-    let G = M .before .before .before .before .before in
+    let G = M .before .before .before .before in
     let L = G .before .before .before .loop in
-    (omega arith, rw (ordinalsBelow-more, ← L .inv .1, ← M .before .before .before .get .ensures, ← M .before .before .wide .ensures .0) (M .mark .ensures), search-miss _ _ _ (L .inv .2) (omega arith) (ap not (sym (G .record-good .ensures) ∙ not-false _ (M .before .before .before .before .if1 .left))))
+    (omega arith, rw (ordinalsBelow-more, ← L .inv .1, ← M .before .before .word .ensures) (M .mark .ensures), search-miss _ _ _ (L .inv .2) (omega arith) (ap not (sym (G .record-good .ensures) ∙ not-false _ (M .before .before .before .if1 .left))))
 
 same-length-2 : tie.Need-same-length-2 Inv-loop μ-loop
 same-length-2 c =
@@ -84,8 +80,7 @@ bad-record-spec =
     record-good-requires
     same-length
     bad
-    get-requires
-    wide-requires
+    word-requires
     mark-requires
     add-i
     loop-less
