@@ -38,26 +38,26 @@ fn is_booking_of(w: &[u16], n: usize, s: usize, i: usize) -> bool
     false
 }
 
-// The number of bookings is the true one, preferred and last are bookings of the slot, the counter is within the chits.
-fn entry_held(w: &[u16], n: usize, most: usize, s: usize, held: usize) -> bool
+// The number of bookings is the true one, preferred and last are bookings of the slot, the counter is within the limit.
+fn entry_held(w: &[u16], n: usize, limit: usize, s: usize, held: usize) -> bool
     requires { ⌜ Counted (now w) n × (s < slots) ⌝ }
-    requires { ⌜ (most ≡ chits (now w)) × (held ≡ bookingsOf (now w) s) ⌝ }
+    requires { ⌜ (limit ≡ chits (now w)) × (held ≡ bookingsOf (now w) s) ⌝ }
     ensures { λ r. ⌜ r ≡ entryHeld (now (w .entry)) s ⌝ }
 {
     (word(w, s, layout::HELD) == held)
         & is_booking_of(w, n, s, word(w, s, layout::PREFERRED))
         & is_booking_of(w, n, s, word(w, s, layout::LAST))
-        & (word(w, s, layout::COUNTER) <= most)
+        & (word(w, s, layout::COUNTER) <= limit)
 }
 
-// Slot entry s, of which held records below n are bookings and most records are in state 2.
-pub fn slot_good(w: &[u16], n: usize, most: usize, s: usize, held: usize) -> bool
+// Slot entry s, where held is its true number of bookings and limit the number of records in state 2.
+pub fn slot_good(w: &[u16], n: usize, limit: usize, s: usize, held: usize) -> bool
     requires { ⌜ Counted (now w) n × (s < slots) ⌝ }
-    requires { ⌜ (most ≡ chits (now w)) × (held ≡ bookingsOf (now w) s) ⌝ }
+    requires { ⌜ (limit ≡ chits (now w)) × (held ≡ bookingsOf (now w) s) ⌝ }
     ensures { λ r. ⌜ r ≡ slotGood (now (w .entry)) s ⌝ }
 {
     if held == 0 {
         return entry_empty(w, s);
     }
-    entry_held(w, n, most, s, held)
+    entry_held(w, n, limit, s, held)
 }

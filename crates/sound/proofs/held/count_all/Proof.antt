@@ -1,9 +1,7 @@
 -- The table is that of the records below i.
 use Prim.Native.Nat.{_≤_, _-_}
-use mathlib.Core.Path.{_≡_, sym, ap, _∙_}
+use mathlib.Core.Path.{_≡_, sym, _∙_}
 use native.Mathlib.Omega.{arith}
-use lib.ListN.{length}
-use Rattle.rules.specs.Layout.{slotOf}
 use Rattle.sound.specs.Held.{heldBelow}
 use Rattle.sound.proofs.Counts.{heldBelow-length, heldBelow-more, heldBelow-le}
 use Rattle.sound.proofs.held.count_all.Statement.{statement}

@@ -12,25 +12,25 @@ use Rattle.sound.proofs.records.bad_record.Statement.{statement}
 use Rattle.sound.proofs.records.bad_record.Tie as tie
 
 abbrev Inv-loop : tie.InvT-loop
-Inv-loop w n most marks₀ i₀ marks i = (i ≤ n) × (marks ≡ ordinalsBelow w i) × Searched (λ j. not (recordGood w j)) n i
+Inv-loop w n limit marks₀ i₀ marks i = (i ≤ n) × (marks ≡ ordinalsBelow w i) × Searched (λ j. not (recordGood w j)) n i
 
 abbrev μ-loop : tie.MeasureT-loop
-μ-loop w n most marks₀ i₀ marks i = n - i
+μ-loop w n limit marks₀ i₀ marks i = n - i
 
 loop-holds : tie.Need-loop-holds Inv-loop μ-loop
-loop-holds c = (omega arith, c .before .before .pre .0 .2, search-start _ _)
+loop-holds c = (omega arith, c .before .before .pre .1 .lower, search-start _ _)
 
 record-good-requires : tie.Need-record-good-requires Inv-loop μ-loop
 record-good-requires c κs =
     let S = c .before .before .before .before .before in
-    ((S .pre .0 .0 .whole, omega arith, S .pre .0 .1, c .before .before .loop .inv .1), S .pre .1)
+    (record { whole = S .pre .0 .whole; within = omega arith; polled = S .pre .1 .polled; lower = c .before .before .loop .inv .1 }, S .pre .2)
 
 same-length : tie.Need-same-length Inv-loop μ-loop
 same-length c =
     let L = c .before .before .before .before in
     let S = L .before .before .before in
     let w = S .args .w .now in
-    rw (L .loop .inv .1, S .pre .0 .2) (ordinalsBelow-length w (L .loop .i) ∙ sym (ordinalsBelow-length w 0))
+    rw (L .loop .inv .1, S .pre .1 .lower) (ordinalsBelow-length w (L .loop .i) ∙ sym (ordinalsBelow-length w 0))
 
 bad : tie.Need-returns Inv-loop μ-loop
 bad c =
@@ -62,7 +62,7 @@ same-length-2 : tie.Need-same-length-2 Inv-loop μ-loop
 same-length-2 c =
     let S = c .before .before .before .before in
     let w = S .args .w .now in
-    rw (c .before .loop .inv .1, S .pre .0 .2) (ordinalsBelow-length w (c .before .loop .i) ∙ sym (ordinalsBelow-length w 0))
+    rw (c .before .loop .inv .1, S .pre .1 .lower) (ordinalsBelow-length w (c .before .loop .i) ∙ sym (ordinalsBelow-length w 0))
 
 all-good : tie.Need-returns-2 Inv-loop μ-loop
 all-good c =

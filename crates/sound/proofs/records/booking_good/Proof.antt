@@ -22,13 +22,13 @@ state-good-requires c κs = search needs
 is-marked-requires : tie.Need-is-marked-requires
 is-marked-requires c κs =
     let S = c .before .before .before .before .before .before .before in
-    rw (S .pre .3) (ordinalsBelow-length (S .args .w .now) (S .args .i))
+    rw (S .pre .lower) (ordinalsBelow-length (S .args .w .now) (S .args .i))
 
 returns : tie.Need-returns
 returns c =
     let N = c .before .before .before in
     let S = N .before .before .before .before .before in
-    rw (N .name-new .ensures, N .before .before .word .ensures, c .before .before .parents-good .ensures, c .before .state-good .ensures, c .is-marked .ensures, N .before .word2 .ensures, S .pre .3) (bookingGood-marked (S .args .w .now) (S .args .i) (S .pre .2))
+    rw (N .name-new .ensures, N .before .before .word .ensures, c .before .before .parents-good .ensures, c .before .state-good .ensures, c .is-marked .ensures, N .before .word2 .ensures, S .pre .lower) (bookingGood-marked (S .args .w .now) (S .args .i) (S .pre .polled))
 
 pub booking-good-spec : {M : Type 1} → statement M
 booking-good-spec =
