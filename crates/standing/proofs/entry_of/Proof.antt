@@ -1,7 +1,7 @@
 -- On a sound workspace the slot of a booking has an entry.
 use native.Mathlib.Omega.{arith}
 use borrow.Author.Needs.{needs}
-use Rattle.standing.proofs.Bounds.{slotOf-lt}
+use Rattle.rules.proofs.Slots.{slotOf-lt}
 use Rattle.standing.proofs.entry_of.Statement.{statement}
 use Rattle.standing.proofs.entry_of.Tie as tie
 
@@ -11,7 +11,7 @@ slot-of-requires c κs = search needs
 get-entry-requires : tie.Need-get-entry-requires
 get-entry-requires c κs =
     let start = c .before .before in
-    omega (arith, slotOf-lt (start .pre .0) (start .args .j) (start .pre .1))
+    omega (arith, slotOf-lt (start .args .w .now) (start .pre .0 .sound) (start .args .j) (start .pre .1))
 
 returns : tie.Need-returns
 returns c = rw (← c .before .slot-of .ensures) (c .get-entry .ensures)
