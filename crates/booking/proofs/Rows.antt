@@ -1,12 +1,12 @@
--- A row of words stored one after another: word by word, as a loop that counts stores it, and what it leaves alone.
-use mathlib.Core.Path.{_≡_, refl, _∙_}
+-- A row of words stored one after another, word by word, as a loop that counts stores it.
+use mathlib.Core.Path.{_≡_}
 use mathlib.Core.List.{List, [], _∷_, _++_}
-use Prim.Native.Nat.{ℕ, suc, _+_, _<_, _≤_}
+use Prim.Native.Nat.{ℕ, suc, _+_, _<_}
 use native.Mathlib.Nat.{add-zero, add-suc, suc-add}
 use native.Mathlib.Numerals.{add-one}
 use native.Mathlib.Omega.{arith}
 use lib.ListN.{length, getD, set, take}
-use lib.Seq.{sets, getD-set-other, take-suc, length-take-le}
+use lib.Seq.{sets, take-suc, length-take-le}
 
 sets-snoc : (vs w : List ℕ) (b a : ℕ) → sets w b (vs ++ (a ∷ [])) ≡ set (sets w b vs) (b + length vs) a
 sets-snoc [] w b a = rw add-zero
@@ -17,9 +17,3 @@ pub sets-more : (w row : List ℕ) (b f k : ℕ) → f < length row → k ≡ b 
 sets-more w row b f k h q =
     let e : length (take f row) ≡ f = length-take-le f row (omega arith) in
     rw (q, add-one, take-suc row f 0 h, sets-snoc, e)
-
--- words from the end of the row on stay
-pub getD-sets-after : (vs w : List ℕ) (b k : ℕ) → b + length vs ≤ k → getD (sets w b vs) k 0 ≡ getD w k 0
-getD-sets-after [] w b k h = refl
-getD-sets-after (v ∷ vs) w b k h =
-    getD-sets-after vs (set w b v) (suc b) k (omega arith) ∙ getD-set-other w b k v 0 (λ e. omega arith)

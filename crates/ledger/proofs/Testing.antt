@@ -11,6 +11,7 @@ use Rattle.rules.specs.declared.answer.Refusal.{Refusal}
 use Rattle.rules.specs.declared.answer.Refusal.the-variants.{WrongLength, NotSound}
 use Rattle.rules.specs.declared.answer.Answer.{Answer}
 use Rattle.rules.specs.declared.answer.Answer.the-variants.{Refused}
+use Rattle.rules.specs.Answers.{outcome, leaves}
 use Rattle.rules.specs.Layout.{size}
 use Rattle.rules.specs.IsSound.{isSound}
 use Rattle.rules.specs.Sound.{Ledger}
@@ -44,3 +45,7 @@ stop-answer false sound r rest e = cc
 pub stop-tested : (w : List ℕ) (r : Refusal) (rest : Answer) → testOf w ≡ Stop r → tested isSound w rest ≡ Refused r
 unfolding testOf
 stop-tested w r rest e = stop-answer (eqb (length w) size) (isSound w) r rest e
+
+-- a writing call that is stopped leaves every word
+pub stop-leaves : (w after : List ℕ) (r : Refusal) (rest : Answer) → testOf w ≡ Stop r → leaves (tested isSound w rest) w after ≡ outcome (Refused r) w
+stop-leaves w after r rest e = ap (λ a. leaves a w after) (stop-tested w r rest e)

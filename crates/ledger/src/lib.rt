@@ -7,7 +7,7 @@ use rules::setting::Setting;
 ghost use mathlib.Core.Path.{_≡_};
 ghost use Rattle.rules.specs.Answers.{outcome};
 ghost use Rattle.asks.specs.Asked.{readingOf};
-ghost use Rattle.rules.specs.Calls.{openCall, readingCall, queryCall, acceptedCall, leadCall, confidenceCall, sizeCall};
+ghost use Rattle.rules.specs.Calls.{openCall, bookCall, pollCall, readingCall, queryCall, acceptedCall, leadCall, confidenceCall, sizeCall};
 ghost use Rattle.ledger.specs.Test.{testOf};
 
 // Whether a workspace is a ledger, or which of refusals 1 and 2 stops the call.
@@ -41,6 +41,26 @@ pub fn open(w: &mut [u16], s: Setting) -> Answer
         Answer::Taken(0)
     } else {
         Answer::Refused(Refusal::BadSetting)
+    }
+}
+
+// One booking more. Refusals 1, 2, 4, 5, 6, 7, 8, 9.
+pub fn book(w: &mut [u16], name: u64, slot: u16, parents: &[u64]) -> Answer
+    ensures { λ r. ⌜ outcome r (now (w .exit)) ≡ bookCall (now (w .entry)) name slot (now (parents .entry)) ⌝ }
+{
+    match test(w) {
+        Tested::Stop(refusal) => Answer::Refused(refusal),
+        Tested::Fine => writes::book::book(w, name, slot, parents),
+    }
+}
+
+// A completed poll. Refusals 1, 2, 10, 11, 12, 13.
+pub fn poll(w: &mut [u16], name: u64, votes: &[u8]) -> Answer
+    ensures { λ r. ⌜ outcome r (now (w .exit)) ≡ pollCall (now (w .entry)) name (now (votes .entry)) ⌝ }
+{
+    match test(w) {
+        Tested::Stop(refusal) => Answer::Refused(refusal),
+        Tested::Fine => writes::poll::poll(w, name, votes),
     }
 }
 

@@ -1,3 +1,2 @@
--- What the writes of a poll lean on, and what they leave for marks that are handed in.
-pub mod Settling
+-- What a successful poll leaves, for marks that are handed in.
 pub mod Marked

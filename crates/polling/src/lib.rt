@@ -1,4 +1,2 @@
-// The writes of a poll: it is noted, the members of the ancestry are raised, and then each is settled. Refusals are judged above.
-pub mod raising;
-pub mod settling;
+// What a taken poll leaves, for success and for failure. Names, votes and refusals are judged above.
 pub mod writing;

@@ -1,6 +1,4 @@
-// What a taken poll leaves, for success and for failure.
-use crate::raising;
-use crate::settling;
+// The poll is noted; on success the members of the ancestry are raised, and then each is settled.
 use rules::layout;
 ghost use mathlib.Core.Path.{_≡_};
 ghost use Prim.Native.Nat.{_<_};

@@ -1,10 +1,13 @@
 -- The record, then the slot, then n. The slot's count is that of the ledger, since a record reaches no entry, and can rise.
+use Prim.Native.Nat.{_≤_}
 use mathlib.Core.Path.{ap, _∙_}
 use lib.ListN.{length}
 use native.Mathlib.Omega.{arith}
 use borrow.Author.Needs.{needs}
+use Rattle.rules.specs.Layout.{recordWords, heldField}
+use Rattle.rules.proofs.Words.{entry-setsRecord-kept}
 use Rattle.booking.proofs.Numbers.{bookedWith-steps}
-use Rattle.booking.proofs.Held.{held-most, held-recorded}
+use Rattle.booking.proofs.Held.{held-most}
 use Rattle.booking.proofs.writing.write_booking.Statement.{statement}
 use Rattle.booking.proofs.writing.write_booking.Tie as tie
 
@@ -31,7 +34,9 @@ enter-slot-requires c κs =
     let P = c .before .before .before .before in
     let N = P .before .before .before .before in
     let S = N .before .before .before .before in
-    (search needs, search needs, rw (P .put-record .ensures, held-recorded (S .args .w .now) (N .new-row .result) (P .before .before .wide .result) (c .wide2 .result) (ap length (N .new-row .ensures)) (search needs), c .wide2 .ensures .0) (omega (arith, held-most (S .pre .0) (S .args .slot) (search needs))))
+    let short : length (N .new-row .result) ≤ recordWords = omega (arith, ap length (N .new-row .ensures)) in
+    let kept = entry-setsRecord-kept (S .args .w .now) (P .before .before .wide .result) (N .new-row .result) (c .wide2 .result) heldField (search needs) short in
+    (search needs, search needs, rw (P .put-record .ensures, kept, c .wide2 .ensures .0) (omega (arith, held-most (S .pre .0) (S .args .slot) (search needs))))
 
 add-set-head : tie.Need-add-set-head
 add-set-head c = search needs

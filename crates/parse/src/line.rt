@@ -1,0 +1,60 @@
+// What follows the first word of a line, for each command.
+use crate::command::Command;
+use crate::command::Reading;
+use crate::many::Many;
+use crate::many::read_numbers;
+use crate::many::read_votes;
+use crate::step::Step;
+use crate::step::next_number;
+use rules::setting::Setting;
+ghost use mathlib.Core.Path.{_≡_};
+ghost use lib.ListN.{length};
+ghost use lib.Seq.{sets};
+ghost use Prim.Native.Nat.{_≤_};
+ghost use Rattle.parse.specs.Words.{wordsAfter};
+ghost use Rattle.parse.specs.Line.{AllShort, bookSays, openSays, pollSays, readSays, settingOf};
+
+// The largest name.
+const NAME_MOST: u64 = 18446744073709551615;
+
+// The largest number of everything but names and votes.
+const SHORT_MOST: u64 = 65535;
+
+// Four short numbers as a setting.
+fn setting_of(four: &[u64; 4]) -> Setting
+    requires { ⌜ AllShort (now four) ⌝ }
+    ensures { λ r. ⌜ r ≡ settingOf (now (four .entry)) ⌝ }
+{
+    Setting {
+        k: four[0] as u16,
+        a: four[1] as u16,
+        beta1: four[2] as u16,
+        beta2: four[3] as u16,
+    }
+}
+
+pub(crate) fn read_open(line: &[u8], at: usize) -> Command
+    requires { ⌜ at ≤ length (now line) ⌝ }
+    ensures { λ r. ⌜ r ≡ openSays (wordsAfter (now (line .entry)) at) ⌝ }
+{
+    let mut four = [0u64; 4];
+    let Many::Count(count) = read_numbers(line, at, SHORT_MOST, &mut four) else {
+        return Command::Bad;
+    };
+    if count < 4 {
+        return Command::Bad;
+    }
+    Command::Open(setting_of(&four))
+}
+
+pub(crate) fn read_reading(line: &[u8], at: usize, reading: Reading) -> Command
+    ensures { λ r. ⌜ r ≡ readSays reading (wordsAfter (now (line .entry)) at) ⌝ }
+{
+    let Step::Next(name, end) = next_number(line, at, NAME_MOST) else {
+        return Command::Bad;
+    };
+    if end < line.len() {
+        return Command::Bad;
+    }
+    Command::Read { reading, name }
+}

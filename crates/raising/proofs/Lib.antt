@@ -1,0 +1,2 @@
+-- Laws that several proofs cite. They assume nothing.
+pub mod Raises

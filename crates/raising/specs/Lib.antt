@@ -1,0 +1,2 @@
+-- What raising leans on.
+pub mod Raising

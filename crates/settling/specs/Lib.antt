@@ -1,0 +1,2 @@
+-- What settling leans on.
+pub mod Settling

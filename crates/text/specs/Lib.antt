@@ -1,0 +1,2 @@
+-- What reading and printing share.
+pub mod Bytes

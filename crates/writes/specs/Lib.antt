@@ -1,0 +1,2 @@
+-- What looking the parents up leaves, and the refusals that come after it.
+pub mod Parents
