@@ -39,8 +39,8 @@ fn value_of(w: &[u16], i: usize, what: Reading) -> i64
     ensures { λ r. ⌜ r ≡ readingOf what (now (w .entry)) i ⌝ }
 {
     match what {
-        Reading::Query => flag(readings::query::query_of(w, i)),
-        Reading::Accepted => flag(readings::accepted::accepted_of(w, i)),
+        Reading::Query => flag(standing::query_of(w, i)),
+        Reading::Accepted => flag(acceptance::accepted_of(w, i)),
         Reading::Lead => readings::lead::lead_of(w, i),
         Reading::Confidence => confidence_value(w, i),
         Reading::Size => size_value(w, i),

@@ -1,6 +1,7 @@
 -- The proofs of the promises. They assume nothing.
 pub mod Taken
 pub mod Grown
+pub mod Unchanged
 pub mod Entered
 pub mod BookedWords
 pub mod BookedRecords
@@ -9,7 +10,6 @@ pub mod Booked
 pub mod Acceptance
 pub mod Refusals
 pub mod Ranges
-pub mod Slots
 pub mod Noted
 pub mod Raised
 pub mod SettledWords

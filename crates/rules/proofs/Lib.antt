@@ -6,6 +6,7 @@ pub mod Lookup
 pub mod Bookings
 pub mod Entries
 pub mod Sound
+pub mod Slots
 pub mod Opened
 pub mod Ancestry
 pub mod Accepted
