@@ -11,7 +11,7 @@ use Rattle.parse.specs.declared.number.Number.{Number}
 use Rattle.parse.specs.declared.number.Number.the-variants.{Value, Bad as NoNumber}
 use Rattle.parse.specs.declared.many.Many.{Many}
 use Rattle.parse.specs.declared.many.Many.the-variants.{Count, Refused}
-use Rattle.parse.specs.declared.command.Reading.{Reading}
+use Rattle.rules.specs.declared.answer.Reading.{Reading}
 use Rattle.parse.specs.declared.command.Command.{Command}
 use Rattle.parse.specs.declared.command.Command.the-variants.{Open, Book, Poll, Read, List as ListAll, Bad}
 use Rattle.parse.specs.declared.keyword.Keyword.{Keyword}

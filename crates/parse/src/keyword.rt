@@ -1,5 +1,5 @@
 // The word that begins a line.
-use crate::command::Reading;
+use rules::answer::Reading;
 ghost use mathlib.Core.Path.{_≡_};
 ghost use mathlib.Core.Bool.{cond};
 ghost use Rattle.parse.specs.Keywords.{isSame, keywordOf, readingOf};

@@ -1,11 +1,11 @@
 // What follows the first word of a line, for each command.
 use crate::command::Command;
-use crate::command::Reading;
 use crate::many::Many;
 use crate::many::read_numbers;
 use crate::many::read_votes;
 use crate::step::Step;
 use crate::step::next_number;
+use rules::answer::Reading;
 use rules::setting::Setting;
 ghost use mathlib.Core.Path.{_≡_};
 ghost use lib.ListN.{length};
