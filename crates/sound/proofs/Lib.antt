@@ -1,0 +1,4 @@
+-- Laws of searches that stop early, and of the tables that the passes keep. They assume nothing.
+pub mod Searches
+pub mod Marks
+pub mod Counts

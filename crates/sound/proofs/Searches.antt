@@ -1,0 +1,53 @@
+-- What a search that ran to its end says, a search over one number more, and one that starts where everything before fails.
+use mathlib.Core.Path.{_≡_, refl, ap, _∙_}
+use mathlib.Core.Bool.{Bool, true, false, not, _||_, true≢false, false≢true}
+use mathlib.Core.Logic.{⊎-elim}
+use Prim.Native.Nat.{ℕ, zero, suc, _+_, _<_, _≤_}
+use native.Mathlib.Numerals.{add-one}
+use native.Mathlib.Nat.{eq-or-lt-of-le, le-of-suc-le-suc}
+use native.Mathlib.Omega.{arith}
+use lib.Dec.{eqb}
+use borrow.Author.Tests.{eq-eqb, le-ltb}
+use Rattle.loops.specs.Search.{firstFrom, first, any, all}
+use Rattle.loops.proofs.Search.{Searched, search-start, search-miss, search-over, any→, →any, none→, →none}
+
+module _ (p : ℕ → Bool) (n i : ℕ) where
+  pub search-none : Searched p n i → n ≤ i → any p n ≡ false
+  search-none s h = le-ltb (first p n) n (omega (arith, search-over p n i s h))
+
+  pub search-all : Searched (λ j. not (p j)) n i → i ≡ n → all p n ≡ true
+  search-all s e = eq-eqb _ n (search-over (λ j. not (p j)) n i s (omega arith) ∙ e)
+
+pub any-suc : (p : ℕ → Bool) (n : ℕ) → any p (suc n) ≡ any p n || p n
+any-suc p n = go (any p n) refl
+  where
+    last : (t : Bool) → p n ≡ t → any p n ≡ false → any p (suc n) ≡ t
+    last true e none = →any p (suc n) n (omega arith) e
+    last false e none =
+        →none p (suc n) (λ j h. ⊎-elim (λ (q : j ≡ n). ap p q ∙ e) (λ (q : j < n). none→ p n none j q) (eq-or-lt-of-le (le-of-suc-le-suc h)))
+
+    go : (t : Bool) → any p n ≡ t → any p (suc n) ≡ t || p n
+    go true e = let f = any→ p n e in →any p (suc n) (f .0) (omega (arith, f .1)) (f .2)
+    go false e = last (p n) refl e
+
+pub search-from : (p : ℕ → Bool) (n m : ℕ) → m ≤ n → ((j : ℕ) → j < m → p j ≡ false) → Searched p n m
+search-from p n zero h fails = search-start p n
+search-from p n (suc m) h fails =
+    rw (← add-one m) (search-miss p n m (search-from p n m (omega arith) (λ j l. fails j (omega arith))) h (fails m (omega arith)))
+
+-- tests that agree below n find the same
+firstFrom-same : (p q : ℕ → Bool) (i k : ℕ) → ((j : ℕ) → i ≤ j → j < i + k → p j ≡ q j) → firstFrom p i k ≡ firstFrom q i k
+unfolding firstFrom
+firstFrom-same p q i zero h = refl
+firstFrom-same p q i (suc k) h =
+    go (p i) (q i) (h i (omega arith) (omega arith)) (firstFrom-same p q (suc i) k (λ j l u. h j (omega arith) (omega arith)))
+  where
+    go : (a b : Bool) {x y : ℕ} → a ≡ b → x ≡ y → _≡_ {A = ℕ} (elim a [ true ↦ i | false ↦ x ]) (elim b [ true ↦ i | false ↦ y ])
+    go true true e r = refl
+    go true false e r = absurd (true≢false e)
+    go false true e r = absurd (false≢true e)
+    go false false e r = r
+
+pub all-same : (p q : ℕ → Bool) (n : ℕ) → ((j : ℕ) → j < n → p j ≡ q j) → all p n ≡ all q n
+all-same p q n h =
+    ap (λ (k : ℕ). eqb k n) (firstFrom-same (λ j. not (p j)) (λ j. not (q j)) 0 n (λ j l u. ap not (h j (omega arith))))

@@ -1,0 +1,67 @@
+-- Where no record below n is bad, the marks are all the ordinals held; else the first part of the rule fails.
+use mathlib.Core.Path.{_≡_, sym, _∙_}
+use mathlib.Core.Bool.{true}
+use borrow.Author.Tests.{eq-eqb, ne-eqb}
+use native.Mathlib.Omega.{arith}
+use borrow.Author.Needs.{needs}
+use Rattle.loops.specs.Search.{all}
+use Rattle.rules.specs.Layout.{bookings}
+use Rattle.rules.specs.IsSound.{recordGood, ordinalsHeld, recordsGood}
+use Rattle.sound.proofs.Marks.{ordinalsBelow-zero, ordinalsHeld-marked}
+use Rattle.sound.proofs.records.records_good.Statement.{statement}
+use Rattle.sound.proofs.records.records_good.Tie as tie
+
+head-requires : tie.Need-head-requires
+head-requires c κs = search needs
+
+wide-requires : tie.Need-wide-requires
+wide-requires c κs = search needs
+
+slice-aggregate-bad-record : tie.Need-slice-aggregate-bad-record
+slice-aggregate-bad-record c = search needs
+
+bad-record-requires : tie.Need-bad-record-requires
+bad-record-requires c κs =
+    let S = c .before .before .before .before in
+    (S .pre .0, record { whole = S .pre .0 .whole; within = omega arith; polled = S .pre .1; lower = sym (ordinalsBelow-zero (S .args .w .now)) }, S .pre .2)
+
+slice-aggregate-all-marked : tie.Need-slice-aggregate-all-marked
+slice-aggregate-all-marked c = search needs
+
+all-marked-requires : tie.Need-all-marked-requires
+all-marked-requires c κs = search needs
+
+stray-record-requires : tie.Need-stray-record-requires
+stray-record-requires c κs = search needs
+
+none-bad : tie.Need-returns
+unfolding recordsGood
+none-bad c =
+    let I = c .before .before .before in
+    let B = I .before .before in
+    let S = B .before .before .before .before .before in
+    let w = S .args .w .now in
+    let good : all (recordGood w) (bookings w) ≡ true = rw (← S .pre .0 .counts) (eq-eqb _ _ (sym (B .bad-record .ensures .0) ∙ I .if1 .taken)) in
+    let held : c .before .all-marked .result ≡ ordinalsHeld w =
+    c .before .all-marked .ensures ∙ rw (B .before .before .wide .ensures .0, B .before .before .before .head .ensures, B .bad-record .ensures .1, I .if1 .taken, S .pre .0 .counts) (ordinalsHeld-marked w (S .pre .1)) in
+    rw (good, held, c .stray-record .ensures)
+
+some-bad : tie.Need-returns-2
+unfolding recordsGood
+some-bad c =
+    let S = c .before .before .before .before .before .before .before in
+    rw (← S .pre .0 .counts, ne-eqb _ _ (λ q. c .if1 .left (c .before .before .bad-record .ensures .0 ∙ q)))
+
+pub records-good-spec : {M : Type 1} → statement M
+records-good-spec =
+    tie.close
+    (tie.spec
+    head-requires
+    wide-requires
+    slice-aggregate-bad-record
+    bad-record-requires
+    slice-aggregate-all-marked
+    all-marked-requires
+    stray-record-requires
+    none-bad
+    some-bad)
