@@ -71,7 +71,7 @@ pub fn state_good(w: &[u16], i: usize) -> bool
     let p = words::head(w, layout::POLLS);
     match vote::read_state(words::get(w, i, layout::STATE)) {
         State::Waiting => (o == 0) & (o <= p),
-        State::Failed => !(o == 0) & (o <= p),
+        State::NoChit => !(o == 0) & (o <= p),
         State::Chit => !(o == 0) & (o <= p),
         State::Unknown => false,
     }
@@ -84,7 +84,7 @@ pub fn chit(w: &[u16], i: usize) -> usize
 {
     match vote::read_state(words::get(w, i, layout::STATE)) {
         State::Waiting => 0,
-        State::Failed => 0,
+        State::NoChit => 0,
         State::Chit => 1,
         State::Unknown => 0,
     }

@@ -4,16 +4,16 @@ use mathlib.Core.Bool.{Bool, true, false, not, cond}
 use Prim.Native.Nat.{ℕ}
 use lib.Dec.{eqb}
 use Rattle.rules.specs.declared.vote.State.{State}
-use Rattle.rules.specs.declared.vote.State.the-variants.{Waiting, Failed, Chit, Unknown}
+use Rattle.rules.specs.declared.vote.State.the-variants.{Waiting, NoChit, Chit, Unknown}
 use Rattle.rules.specs.Votes.{stateSays}
 
 abbrev pub isOver : State → Bool
 isOver Waiting = false
-isOver Failed = true
+isOver NoChit = true
 isOver Chit = true
 isOver Unknown = true
 
-over-first : (a b c : Bool) → isOver (cond a Waiting (cond b Failed (cond c Chit Unknown))) ≡ not a
+over-first : (a b c : Bool) → isOver (cond a Waiting (cond b NoChit (cond c Chit Unknown))) ≡ not a
 over-first true b c = refl
 over-first false true c = refl
 over-first false false true = refl

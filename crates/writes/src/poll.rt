@@ -46,7 +46,7 @@ fn is_polled(w: &[u16], i: usize) -> bool
 {
     match vote::read_state(words::get(w, i, layout::STATE)) {
         State::Waiting => false,
-        State::Failed => true,
+        State::NoChit => true,
         State::Chit => true,
         State::Unknown => true,
     }
