@@ -11,7 +11,6 @@ pub mod Acceptance
 pub mod Refusals
 pub mod Ranges
 pub mod Noted
-pub mod Raised
 pub mod SettledWords
 pub mod Settled
 pub mod Settling

@@ -24,9 +24,8 @@ use Rattle.rules.specs.Ancestry.{ancestry, isMember}
 use Rattle.rules.specs.Sound.{Ledger, BookingOf}
 use Rattle.rules.specs.Poll.{noted, raised, succeeded}
 use Rattle.rules.proofs.Slots.{slotOf-absent, booking-lt, slotOf-lt, preferredIn-lt}
-use Rattle.promises.proofs.Taken.{Led}
-use Rattle.promises.proofs.Noted.{Noted, length-noted, confidence-noted, entry-noted-kept, noted-Noted, Noted-kept, Noted-bookings}
-use Rattle.promises.proofs.Raised.{
+use Rattle.rules.proofs.Noted.{length-noted, confidence-noted, entry-noted-kept}
+use Rattle.rules.proofs.Raised.{
   length-raised,
   header-raised-kept,
   field-raised-beside,
@@ -34,6 +33,8 @@ use Rattle.promises.proofs.Raised.{
   confidence-raised,
   confidence-raised-rest,
 }
+use Rattle.promises.proofs.Taken.{Led}
+use Rattle.promises.proofs.Noted.{Noted, noted-Noted, Noted-kept, Noted-bookings}
 use Rattle.promises.proofs.SettledWords.{length-settled, header-settled-kept, field-settled-kept, held-settled-kept}
 use Rattle.promises.proofs.Settled.{Settleable}
 use Rattle.promises.proofs.Settling.{

@@ -83,11 +83,9 @@ module _ (w : List ℕ) (sound : Sound w) (i : ℕ) (below : i < bookings w) whe
     where
       to : parentsAccepted w (acceptedBelow w i) i ≡ true → (p : ℕ) → Parent w i p → acceptedOf w p ≡ true
       to e p a =
-          let passed : passes (acceptedBelow w i) p ≡ true =
-          subst (λ x. passes (acceptedBelow w i) x ≡ true) (a .stands)
-          (all→ (λ b. passes (acceptedBelow w i) (parentOf w i b)) mostParents e (a .place) (a .within))
-          in
-          sym (acceptedBelow-is w i p (Parent-lt w sound i p below a)) ∙ or-right _ _ passed (ne-eqb p none (a .used))
+          let passed = all→ (λ b. passes (acceptedBelow w i) (parentOf w i b)) mostParents e (a .place) (a .within) in
+          sym (acceptedBelow-is w i p (Parent-lt w sound i p below a))
+          ∙ or-right _ _ (subst (λ x. passes (acceptedBelow w i) x ≡ true) (a .stands) passed) (ne-eqb p none (a .used))
 
       from : ((p : ℕ) → Parent w i p → acceptedOf w p ≡ true) → parentsAccepted w (acceptedBelow w i) i ≡ true
       from h =

@@ -11,6 +11,8 @@ pub mod Opened
 pub mod Ancestry
 pub mod Accepted
 pub mod Readings
+pub mod Noted
+pub mod Raised
 pub mod Calls
 pub mod Tested
 pub mod Walk
