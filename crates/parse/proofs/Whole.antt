@@ -4,13 +4,13 @@ use mathlib.Core.List.{List, [], _∷_}
 use Prim.Native.Nat.{ℕ}
 use lib.ListN.{take}
 use lib.Seq.{sets}
-use Rattle.parse.specs.declared.number.Number.{Number}
-use Rattle.parse.specs.declared.number.Number.the-variants.{Value, Bad as NoNumber}
+use Rattle.scan.specs.declared.number.Number.{Number}
+use Rattle.scan.specs.declared.number.Number.the-variants.{Value, Bad as NoNumber}
 use Rattle.parse.specs.declared.command.Command.{Command}
 use Rattle.parse.specs.declared.command.Command.the-variants.{Bad}
-use Rattle.parse.specs.declared.keyword.Keyword.{Keyword}
-use Rattle.parse.specs.Words.{wordEnd, wordsAfter}
-use Rattle.parse.specs.Keywords.{keywordOf}
+use Rattle.scan.specs.declared.keyword.Keyword.{Keyword}
+use Rattle.scan.specs.Words.{wordEnd, wordsAfter}
+use Rattle.scan.specs.Keywords.{keywordOf}
 use Rattle.parse.specs.Line.{
   valued,
   number,
@@ -25,7 +25,7 @@ use Rattle.parse.specs.Line.{
   Polled,
   Parsed,
 }
-use Rattle.parse.proofs.Split.{words-first}
+use Rattle.scan.proofs.Split.{words-first}
 
 pub line-says : (line : List ℕ) (end : ℕ) (k : Keyword) → end ≡ wordEnd line → k ≡ keywordOf (take end line) → lineSays line ≡ keywordSays k (wordsAfter line end)
 unfolding lineSays

@@ -1,14 +1,6 @@
 // What a line asks for.
 use rules::setting::Setting;
-
-// Which reading of a booking.
-pub enum Reading {
-    Query,
-    Accepted,
-    Lead,
-    Confidence,
-    Size,
-}
+use scan::keyword::Reading;
 
 // The parents of a booking and the votes of a poll stand in the lent buffers: here is how many.
 pub enum Command {

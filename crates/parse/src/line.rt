@@ -1,17 +1,17 @@
 // What follows the first word of a line, for each command.
 use crate::command::Command;
-use crate::command::Reading;
-use crate::many::Many;
-use crate::many::read_numbers;
-use crate::many::read_votes;
-use crate::step::Step;
-use crate::step::next_number;
 use rules::setting::Setting;
+use scan::keyword::Reading;
+use scan::many::Many;
+use scan::many::read_numbers;
+use scan::many::read_votes;
+use scan::step::Step;
+use scan::step::next_number;
 ghost use mathlib.Core.Path.{_≡_};
 ghost use lib.ListN.{length};
 ghost use Prim.Native.Nat.{_≤_};
-ghost use Rattle.parse.specs.Words.{wordsAfter};
-ghost use Rattle.parse.specs.Lists.{parentsMost, votesMost};
+ghost use Rattle.scan.specs.Words.{wordsAfter};
+ghost use Rattle.scan.specs.Lists.{parentsMost, votesMost};
 ghost use Rattle.parse.specs.Line.{
   AllShort,
   Booked,
