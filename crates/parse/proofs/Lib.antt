@@ -1,3 +1,4 @@
 -- Laws of the definitions in specs/, cited by the proofs of the functions. They assume nothing.
 pub mod Grammar
 pub mod Whole
+pub mod Cases
