@@ -4,3 +4,4 @@ pub mod Parts
 pub mod Split
 pub mod Walk
 pub mod Leading
+pub mod Same
