@@ -1,7 +1,7 @@
 -- Laws of what is told from the words in turn: a step takes one number from the words, and a stop makes the line bad.
-use mathlib.Core.Path.{_≡_, refl, sym, ap, _∙_}
-use mathlib.Core.List.{List, [], _∷_}
-use Prim.Native.Nat.{ℕ, _+_, _<_, _≤_}
+use mathlib.Core.Path.{_≡_, sym, ap, _∙_}
+use mathlib.Core.List.{List}
+use Prim.Native.Nat.{ℕ, _<_, _≤_}
 use native.Mathlib.Decide.{decLt}
 use native.Mathlib.Omega.{arith}
 use lib.ListN.{length}
@@ -9,7 +9,7 @@ use lib.Seq.{sets}
 use Rattle.scan.specs.declared.number.Number.{Number}
 use Rattle.scan.specs.declared.step.Step.the-variants.{Next, Stop}
 use Rattle.scan.specs.Words.{wordsAfter}
-use Rattle.scan.specs.Steps.{wordAfter, endAfter, stepOf}
+use Rattle.scan.specs.Steps.{stepOf}
 use Rattle.scan.specs.declared.many.Many.{Many}
 use Rattle.parse.specs.declared.command.Command.{Command}
 use Rattle.parse.specs.declared.command.Command.the-variants.{Bad}

@@ -11,20 +11,7 @@ use Rattle.parse.specs.declared.command.Command.the-variants.{Bad}
 use Rattle.scan.specs.declared.keyword.Keyword.{Keyword}
 use Rattle.scan.specs.Words.{wordEnd, wordsAfter}
 use Rattle.scan.specs.Keywords.{keywordOf}
-use Rattle.parse.specs.Line.{
-  valued,
-  number,
-  Said,
-  alone,
-  bookSays,
-  pollSays,
-  keywordSays,
-  wordsSay,
-  lineSays,
-  Booked,
-  Polled,
-  Parsed,
-}
+use Rattle.parse.specs.Line.{valued, number, alone, bookSays, pollSays, keywordSays, wordsSay, lineSays, Booked, Polled, Parsed}
 use Rattle.scan.proofs.Split.{words-first}
 
 pub line-says : (line : List ℕ) (end : ℕ) (k : Keyword) → end ≡ wordEnd line → k ≡ keywordOf (take end line) → lineSays line ≡ keywordSays k (wordsAfter line end)

@@ -4,15 +4,14 @@ use mathlib.Core.Bool.{Bool, true, false, not, _&&_, cond, and-false, false≢tr
 use mathlib.Core.List.{List}
 use mathlib.Core.Logic.{_⊎_, ⊎-elim, inl, inr}
 use Prim.Native.Nat.{ℕ, zero, suc, _+_, _*_, _-_, _%_, _<_, _≤_}
-use native.Mathlib.Nat.{add-zero, add-suc}
+use native.Mathlib.Nat.{add-zero}
 use native.Mathlib.Omega.{arith}
 use lib.ListN.{length, getD, drop, List·getD-eq-default}
 use lib.Dec.{eqb, leb}
 use borrow.Author.Tests.{eq-eqb, le-leb, lt-leb, leb-true, leb-false}
-use Rattle.loops.specs.Search.{first, all}
-use Rattle.loops.specs.Turns.{upTo}
+use Rattle.loops.specs.Search.{all}
 use Rattle.loops.proofs.Search.{Searched, search-start, search-miss, search-over, all-fails}
-use Rattle.loops.proofs.Turns.{upTo-zero, upTo-suc, upTo-more}
+use Rattle.loops.proofs.Turns.{upTo-zero, upTo-more}
 use Rattle.text.specs.Bytes.{digit, minus}
 use Rattle.scan.specs.declared.number.Number.{Number}
 use Rattle.scan.specs.declared.number.Number.the-variants.{Value, Bad}

@@ -9,7 +9,6 @@ use native.Mathlib.Numerals.{add-one}
 use native.Mathlib.Omega.{arith}
 use lib.ListN.{length, getD, set}
 use lib.Seq.{sets, sets-eq, drop-length}
-use lib.Dec.{eqb}
 use borrow.Author.Tests.{eq-eqb, ne-eqb, eqb-true}
 use Rattle.scan.specs.declared.number.Number.{Number}
 use Rattle.scan.specs.declared.number.Number.the-variants.{Value, Bad}
@@ -22,7 +21,7 @@ use Rattle.scan.specs.Steps.{stepOf}
 use Rattle.scan.specs.Lists.{ahead, leading, isList, manyOf, Listed}
 use Rattle.scan.proofs.Digits.{number-le}
 use Rattle.scan.proofs.Split.{wordsAfter-next, wordsAfter-end}
-use Rattle.scan.proofs.Walk.{Stepped, step-next, step-stop}
+use Rattle.scan.proofs.Walk.{step-next, step-stop}
 
 module _ (reader : List ℕ → Number) where
   leading-nil : (most : ℕ) → leading reader most [] ≡ []

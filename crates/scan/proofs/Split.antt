@@ -9,9 +9,9 @@ use native.Mathlib.Decide.{decLt}
 use native.Mathlib.Omega.{arith}
 use lib.ListN.{length, getD, take, drop, length-drop}
 use lib.Seq.{drop-drop}
-use lib.Dec.{eqb, ltb, leb·suc-suc}
+use lib.Dec.{eqb, leb·suc-suc}
 use borrow.Author.Tests.{lt-ltb, le-ltb}
-use Rattle.loops.specs.Search.{firstFrom, first}
+use Rattle.loops.specs.Search.{firstFrom}
 use Rattle.loops.proofs.Search.{first-le}
 use Rattle.text.specs.Bytes.{space}
 use Rattle.scan.specs.Words.{before, words, wordEnd, firstWord, wordsAfter}

@@ -1,11 +1,9 @@
 -- Laws of the step to the next word: there is none past the end, and any other is read where it stands.
 use mathlib.Core.Path.{_≡_, refl, sym, ap, ap₂, _∙_}
-use mathlib.Core.Bool.{cond}
-use mathlib.Core.List.{List, [], _∷_}
+use mathlib.Core.List.{List, _∷_}
 use Prim.Native.Nat.{ℕ, _+_, _-_, _<_, _≤_}
 use native.Mathlib.Omega.{arith}
 use lib.ListN.{length, take, drop}
-use lib.Dec.{ltb}
 use borrow.Author.Tests.{lt-ltb, le-ltb}
 use Rattle.scan.specs.declared.number.Number.{Number}
 use Rattle.scan.specs.declared.number.Number.the-variants.{Value, Bad}

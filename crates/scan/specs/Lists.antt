@@ -10,7 +10,6 @@ use Rattle.scan.specs.declared.number.Number.{Number}
 use Rattle.scan.specs.declared.number.Number.the-variants.{Value, Bad}
 use Rattle.scan.specs.declared.many.Many.{Many}
 use Rattle.scan.specs.declared.many.Many.the-variants.{Count, Refused}
-use Rattle.scan.specs.Words.{wordsAfter}
 
 -- the numbers of `open`, the parents of `book`, the votes of `poll`
 abbrev pub openMost : ℕ

@@ -12,6 +12,7 @@ pub enum Reading {
     Size,
 }
 
+// What the first word of a line asks for.
 pub enum Keyword {
     Open,
     Book,
@@ -21,6 +22,7 @@ pub enum Keyword {
     Unknown,
 }
 
+// Whether two words have the same bytes.
 fn same(a: &[u8], b: &[u8]) -> bool
     ensures { λ r. ⌜ r ≡ isSame (now (a .entry)) (now (b .entry)) ⌝ }
 {
@@ -42,6 +44,7 @@ fn either(word: &[u8], text: &[u8], yes: Keyword, no: Keyword) -> Keyword
     if same(word, text) { yes } else { no }
 }
 
+// The keyword of a reading.
 fn read_reading(word: &[u8]) -> Keyword
     ensures { λ r. ⌜ r ≡ readingOf (now (word .entry)) ⌝ }
 {
@@ -62,6 +65,7 @@ fn read_reading(word: &[u8]) -> Keyword
     either(word, b"query", Keyword::Read(Reading::Query), accepted)
 }
 
+// The keyword, in lower case only. Every text is compared: the words are few and short.
 pub fn read_keyword(word: &[u8]) -> Keyword
     ensures { λ r. ⌜ r ≡ keywordOf (now (word .entry)) ⌝ }
 {

@@ -15,6 +15,7 @@ pub enum Step {
     Stop,
 }
 
+// The step that a word makes which ends there.
 fn step_by(n: Number, end: usize) -> Step
     ensures { λ r. ⌜ r ≡ stepBy n end ⌝ }
 {
@@ -24,6 +25,7 @@ fn step_by(n: Number, end: usize) -> Step
     }
 }
 
+// Where the word ends that follows one which ends at a space.
 fn end_after(line: &[u8], at: usize) -> usize
     requires { ⌜ at < length (now line) ⌝ }
     ensures { λ r. ⌜ (r ≡ endAfter (now (line .entry)) at) × (r ≤ length (now (line .entry))) ⌝ }
@@ -32,6 +34,7 @@ fn end_after(line: &[u8], at: usize) -> usize
     start + word_end(&line[start..])
 }
 
+// The next word as a number within the limit.
 pub fn next_number(line: &[u8], at: usize, most: u64) -> Step
     requires { ⌜ 9 ≤ most ⌝ }
     ensures { λ r. ⌜ r ≡ stepOf (numberOf most) (now (line .entry)) at ⌝ }
@@ -44,6 +47,7 @@ pub fn next_number(line: &[u8], at: usize, most: u64) -> Step
     step_by(read_number(&line[start..end], most), end)
 }
 
+// The next word as a vote.
 pub fn next_vote(line: &[u8], at: usize) -> Step
     ensures { λ r. ⌜ r ≡ stepOf voteOf (now (line .entry)) at ⌝ }
 {

@@ -1,8 +1,7 @@
 -- A word that begins with a minus sign is the number after it, negated; any other is a number by itself.
 use mathlib.Core.Path.{sym, ap, _∙_}
 use borrow.Author.Tests.{eq-eqb, ne-eqb}
-use Rattle.text.specs.Bytes.{minus}
-use Rattle.scan.specs.Numbers.{voteMost, minusMost, negatedOf, numberOf, voteOf}
+use Rattle.scan.specs.Numbers.{minusMost, negatedOf, numberOf, voteOf}
 use Rattle.scan.proofs.Digits.{vote-none}
 use Rattle.scan.proofs.Parts.{rest-lent}
 use borrow.Author.Needs.{needs}

@@ -2,7 +2,6 @@
 use mathlib.Core.Path.{_≡_, ap, _∙_}
 use Prim.Native.Nat.{_+_}
 use native.Mathlib.Omega.{arith}
-use lib.ListN.{length}
 use Rattle.scan.specs.Words.{wordEnd}
 use Rattle.scan.specs.Steps.{endAfter}
 use Rattle.scan.proofs.Parts.{rest-lent}
