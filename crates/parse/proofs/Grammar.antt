@@ -1,20 +1,20 @@
 -- Laws of what is told from the words in turn: a step takes one number from the words, and a stop makes the line bad.
-use mathlib.Core.Path.{_≡_, refl, sym, ap, _∙_}
-use mathlib.Core.List.{List, [], _∷_}
-use Prim.Native.Nat.{ℕ, _+_, _<_, _≤_}
+use mathlib.Core.Path.{_≡_, sym, ap, _∙_}
+use mathlib.Core.List.{List}
+use Prim.Native.Nat.{ℕ, _<_, _≤_}
 use native.Mathlib.Decide.{decLt}
 use native.Mathlib.Omega.{arith}
 use lib.ListN.{length}
 use lib.Seq.{sets}
-use Rattle.parse.specs.declared.number.Number.{Number}
-use Rattle.parse.specs.declared.step.Step.the-variants.{Next, Stop}
-use Rattle.parse.specs.Words.{wordsAfter}
-use Rattle.parse.specs.Steps.{wordAfter, endAfter, stepOf}
-use Rattle.parse.specs.declared.many.Many.{Many}
+use Rattle.scan.specs.declared.number.Number.{Number}
+use Rattle.scan.specs.declared.step.Step.the-variants.{Next, Stop}
+use Rattle.scan.specs.Words.{wordsAfter}
+use Rattle.scan.specs.Steps.{stepOf}
+use Rattle.scan.specs.declared.many.Many.{Many}
 use Rattle.parse.specs.declared.command.Command.{Command}
 use Rattle.parse.specs.declared.command.Command.the-variants.{Bad}
-use Rattle.parse.specs.Numbers.{nameOf, voteOf}
-use Rattle.parse.specs.Lists.{parentsMost, votesMost, Listed}
+use Rattle.scan.specs.Numbers.{nameOf, voteOf}
+use Rattle.scan.specs.Lists.{parentsMost, votesMost, Listed}
 use Rattle.parse.specs.Line.{
   number,
   nothing,
@@ -27,8 +27,8 @@ use Rattle.parse.specs.Line.{
   Booked,
   Polled,
 }
-use Rattle.parse.proofs.Split.{wordsAfter-next, wordsAfter-end}
-use Rattle.parse.proofs.Walk.{Stepped, step-none, step-next, step-stop}
+use Rattle.scan.proofs.Split.{wordsAfter-next, wordsAfter-end}
+use Rattle.scan.proofs.Walk.{Stepped, step-none, step-next, step-stop}
 
 module _ (reader : List ℕ → Number) (line : List ℕ) (at : ℕ) where
   -- a step is made only where there is a word

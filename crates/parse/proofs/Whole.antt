@@ -1,31 +1,18 @@
 -- Laws of the whole line: its keyword and the words after it say what it says, and a command that takes no list leaves the buffers.
-use mathlib.Core.Path.{_≡_, refl, sym, ap, ap₂, _∙_}
+use mathlib.Core.Path.{_≡_, refl, sym, ap, _∙_}
 use mathlib.Core.List.{List, [], _∷_}
 use Prim.Native.Nat.{ℕ}
 use lib.ListN.{take}
 use lib.Seq.{sets}
-use Rattle.parse.specs.declared.number.Number.{Number}
-use Rattle.parse.specs.declared.number.Number.the-variants.{Value, Bad as NoNumber}
+use Rattle.scan.specs.declared.number.Number.{Number}
+use Rattle.scan.specs.declared.number.Number.the-variants.{Value, Bad as NoNumber}
 use Rattle.parse.specs.declared.command.Command.{Command}
 use Rattle.parse.specs.declared.command.Command.the-variants.{Bad}
-use Rattle.parse.specs.declared.keyword.Keyword.{Keyword}
-use Rattle.parse.specs.Words.{wordEnd, wordsAfter}
-use Rattle.parse.specs.Keywords.{keywordOf}
-use Rattle.parse.specs.Line.{
-  valued,
-  number,
-  Said,
-  alone,
-  bookSays,
-  pollSays,
-  keywordSays,
-  wordsSay,
-  lineSays,
-  Booked,
-  Polled,
-  Parsed,
-}
-use Rattle.parse.proofs.Split.{words-first}
+use Rattle.scan.specs.declared.keyword.Keyword.{Keyword}
+use Rattle.scan.specs.Words.{wordEnd, wordsAfter}
+use Rattle.scan.specs.Keywords.{keywordOf}
+use Rattle.parse.specs.Line.{valued, number, alone, bookSays, pollSays, keywordSays, wordsSay, lineSays, Booked, Polled, Parsed}
+use Rattle.scan.proofs.Split.{words-first}
 
 pub line-says : (line : List ℕ) (end : ℕ) (k : Keyword) → end ≡ wordEnd line → k ≡ keywordOf (take end line) → lineSays line ≡ keywordSays k (wordsAfter line end)
 unfolding lineSays
@@ -36,22 +23,22 @@ line-says line end k e q =
 -- ---- a booking says nothing of votes, a poll nothing of parents
 
 -- what holds of a bad line and of every rest holds of a number and its rest
-number-holds : (P : Said → Type 0) (reader : List ℕ → Number) (rest : ℕ → List (List ℕ) → Said) → P (alone Bad)
-    → ((v : ℕ) (ws : List (List ℕ)) → P (rest v ws)) → (ws : List (List ℕ)) → P (number (alone Bad) reader ws rest)
-number-holds P reader rest bad each [] = bad
-number-holds P reader rest bad each (w ∷ ws) = go (reader w)
+pub number-holds : {A : Type 0} (P : A → Type 0) (none : A) (reader : List ℕ → Number) (rest : ℕ → List (List ℕ) → A) → P none
+    → ((v : ℕ) (ws : List (List ℕ)) → P (rest v ws)) → (ws : List (List ℕ)) → P (number none reader ws rest)
+number-holds P none reader rest h each [] = h
+number-holds P none reader rest h each (w ∷ ws) = go (reader w)
   where
-    go : (n : Number) → P (valued (alone Bad) n (λ v. rest v ws))
+    go : (n : Number) → P (valued none n (λ v. rest v ws))
     go (Value v) = each v ws
-    go NoNumber = bad
+    go NoNumber = h
 
 book-votes : (ws : List (List ℕ)) → (bookSays ws) .votes ≡ []
 unfolding bookSays
-book-votes = number-holds (λ s. s .votes ≡ []) _ _ refl (λ name. number-holds (λ s. s .votes ≡ []) _ _ refl (λ slot ws. refl))
+book-votes = number-holds (λ s. s .votes ≡ []) (alone Bad) _ _ refl (λ name. number-holds (λ s. s .votes ≡ []) (alone Bad) _ _ refl (λ slot ws. refl))
 
 poll-parents : (ws : List (List ℕ)) → (pollSays ws) .parents ≡ []
 unfolding pollSays
-poll-parents = number-holds (λ s. s .parents ≡ []) _ _ refl (λ name ws. refl)
+poll-parents = number-holds (λ s. s .parents ≡ []) (alone Bad) _ _ refl (λ name ws. refl)
 
 -- ---- what the buffers then hold
 

@@ -7,15 +7,15 @@ use lib.ListN.{getD}
 use lib.Seq.{sets}
 use lib.Dec.{ltb}
 use Rattle.rules.specs.declared.setting.Setting.{Setting}
-use Rattle.parse.specs.declared.number.Number.{Number}
-use Rattle.parse.specs.declared.number.Number.the-variants.{Value, Bad as NoNumber}
-use Rattle.parse.specs.declared.many.Many.{Many}
-use Rattle.parse.specs.declared.many.Many.the-variants.{Count, Refused}
+use Rattle.scan.specs.declared.number.Number.{Number}
+use Rattle.scan.specs.declared.number.Number.the-variants.{Value, Bad as NoNumber}
+use Rattle.scan.specs.declared.many.Many.{Many}
+use Rattle.scan.specs.declared.many.Many.the-variants.{Count, Refused}
 use Rattle.rules.specs.declared.answer.Reading.{Reading}
 use Rattle.parse.specs.declared.command.Command.{Command}
 use Rattle.parse.specs.declared.command.Command.the-variants.{Open, Book, Poll, Read, List as ListAll, Bad}
-use Rattle.parse.specs.declared.keyword.Keyword.{Keyword}
-use Rattle.parse.specs.declared.keyword.Keyword.the-variants.{
+use Rattle.scan.specs.declared.keyword.Keyword.{Keyword}
+use Rattle.scan.specs.declared.keyword.Keyword.the-variants.{
   Open as openWord,
   Book as bookWord,
   Poll as pollWord,
@@ -23,10 +23,10 @@ use Rattle.parse.specs.declared.keyword.Keyword.the-variants.{
   List as listWord,
   Unknown,
 }
-use Rattle.parse.specs.Words.{words}
-use Rattle.parse.specs.Numbers.{shortMost, nameOf, shortOf, voteOf}
-use Rattle.parse.specs.Keywords.{keywordOf}
-use Rattle.parse.specs.Lists.{openMost, parentsMost, votesMost, leading, manyOf}
+use Rattle.scan.specs.Words.{words}
+use Rattle.scan.specs.Numbers.{shortMost, nameOf, shortOf, voteOf}
+use Rattle.scan.specs.Keywords.{keywordOf}
+use Rattle.scan.specs.Lists.{openMost, parentsMost, votesMost, leading, manyOf}
 
 -- ---- what is told from the words in turn
 

@@ -1,17 +1,17 @@
 // What follows the first word of a line, for each command.
 use crate::command::Command;
-use crate::many::Many;
-use crate::many::read_numbers;
-use crate::many::read_votes;
-use crate::step::Step;
-use crate::step::next_number;
 use rules::answer::Reading;
 use rules::setting::Setting;
+use scan::many::Many;
+use scan::many::read_numbers;
+use scan::many::read_votes;
+use scan::step::Step;
+use scan::step::next_number;
 ghost use mathlib.Core.Path.{_≡_};
 ghost use lib.ListN.{length};
 ghost use Prim.Native.Nat.{_≤_};
-ghost use Rattle.parse.specs.Words.{wordsAfter};
-ghost use Rattle.parse.specs.Lists.{parentsMost, votesMost};
+ghost use Rattle.scan.specs.Words.{wordsAfter};
+ghost use Rattle.scan.specs.Lists.{parentsMost, votesMost};
 ghost use Rattle.parse.specs.Line.{
   AllShort,
   Booked,
@@ -45,6 +45,7 @@ fn setting_of(four: &[u64; 4]) -> Setting
     }
 }
 
+// k, a, beta1 and beta2.
 pub(crate) fn read_open(line: &[u8], at: usize) -> Command
     requires { ⌜ at ≤ length (now line) ⌝ }
     ensures { λ r. ⌜ r ≡ openSays (wordsAfter (now (line .entry)) at) ⌝ }
@@ -59,6 +60,7 @@ pub(crate) fn read_open(line: &[u8], at: usize) -> Command
     Command::Open(setting_of(&four))
 }
 
+// One name.
 pub(crate) fn read_reading(line: &[u8], at: usize, reading: Reading) -> Command
     ensures { λ r. ⌜ r ≡ readSays reading (wordsAfter (now (line .entry)) at) ⌝ }
 {
@@ -71,6 +73,7 @@ pub(crate) fn read_reading(line: &[u8], at: usize, reading: Reading) -> Command
     Command::Read { reading, name }
 }
 
+// The command, once the parents are counted.
 fn book_with(name: u64, slot: u16, many: Many) -> Command
     ensures { λ r. ⌜ r ≡ bookWith name slot many ⌝ }
 {
@@ -80,6 +83,7 @@ fn book_with(name: u64, slot: u16, many: Many) -> Command
     }
 }
 
+// A name, a slot and the parents.
 pub(crate) fn read_book(line: &[u8], at: usize, parents: &mut [u64]) -> Command
     requires { ⌜ length (now parents) ≡ parentsMost ⌝ }
     ensures { λ r. ⌜ Booked (bookSays (wordsAfter (now (line .entry)) at)) (now (parents .entry)) r (now (parents .exit)) ⌝ }
@@ -97,6 +101,7 @@ pub(crate) fn read_book(line: &[u8], at: usize, parents: &mut [u64]) -> Command
     )
 }
 
+// The command, once the votes are counted.
 fn poll_with(name: u64, many: Many) -> Command
     ensures { λ r. ⌜ r ≡ pollWith name many ⌝ }
 {
@@ -106,6 +111,7 @@ fn poll_with(name: u64, many: Many) -> Command
     }
 }
 
+// A name and the votes.
 pub(crate) fn read_poll(line: &[u8], at: usize, votes: &mut [u8]) -> Command
     requires { ⌜ length (now votes) ≡ votesMost ⌝ }
     ensures { λ r. ⌜ Polled (pollSays (wordsAfter (now (line .entry)) at)) (now (votes .entry)) r (now (votes .exit)) ⌝ }
@@ -116,6 +122,7 @@ pub(crate) fn read_poll(line: &[u8], at: usize, votes: &mut [u8]) -> Command
     poll_with(name, read_votes(line, end, votes))
 }
 
+// Nothing.
 pub(crate) fn read_list(line: &[u8], at: usize) -> Command
     ensures { λ r. ⌜ r ≡ nothing Command.Bad (wordsAfter (now (line .entry)) at) Command.List ⌝ }
 {

@@ -4,8 +4,8 @@ use Prim.Native.Nat.{_≤_}
 use native.Mathlib.Omega.{arith}
 use lib.ListN.{length, length-take}
 use Rattle.parse.specs.Line.{lineSays, keywordSays}
-use Rattle.parse.specs.Words.{wordsAfter}
-use Rattle.parse.proofs.Split.{wordEnd-le}
+use Rattle.scan.specs.Words.{wordsAfter}
+use Rattle.scan.proofs.Split.{wordEnd-le}
 use Rattle.parse.proofs.Whole.{line-says, parsed-alone, parsed-booked, parsed-polled}
 use borrow.Author.Needs.{needs}
 use Rattle.parse.proofs.parse.Statement.{statement}

@@ -1,8 +1,8 @@
 -- A name and the votes after it; the name is judged before a vote is stored.
 use mathlib.Core.Path.{sym, _∙_}
 use Rattle.parse.specs.declared.command.Command.the-variants.{Bad}
-use Rattle.parse.specs.Words.{wordsAfter}
-use Rattle.parse.specs.Numbers.{nameOf}
+use Rattle.scan.specs.Words.{wordsAfter}
+use Rattle.scan.specs.Numbers.{nameOf}
 use Rattle.parse.specs.Line.{alone, pollSays}
 use Rattle.parse.proofs.Grammar.{stepped, number-next, number-stop, polled-bad, polled-listed}
 use borrow.Author.Needs.{needs}
