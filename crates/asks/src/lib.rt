@@ -1,24 +1,16 @@
 // The readings by name, on a workspace that is known to be a ledger. The public calls test once and come here.
 use rules::answer::Answer;
 use rules::answer::Found;
+use rules::answer::Reading;
 use rules::answer::Refusal;
 ghost use mathlib.Core.Path.{_≡_};
 ghost use Prim.Native.Nat.{_<_};
 ghost use lib.IntN.{pos};
 ghost use Rattle.loops.specs.Total.{bit};
 ghost use Rattle.rules.specs.Layout.{bookings, confidenceOf};
-ghost use Rattle.rules.specs.Readings.{sizeOf};
+ghost use Rattle.rules.specs.Readings.{sizeOf, readingOf};
 ghost use Rattle.rules.specs.Sound.{Ledger};
 ghost use Rattle.rules.specs.Calls.{readingCall};
-ghost use Rattle.asks.specs.Asked.{readingOf};
-
-pub enum Reading {
-    Query,
-    Accepted,
-    Lead,
-    Confidence,
-    Size,
-}
 
 // 1 for yes, 0 for no.
 fn flag(b: bool) -> i64
@@ -47,8 +39,8 @@ fn value_of(w: &[u16], i: usize, what: Reading) -> i64
     ensures { λ r. ⌜ r ≡ readingOf what (now (w .entry)) i ⌝ }
 {
     match what {
-        Reading::Query => flag(readings::query::query_of(w, i)),
-        Reading::Accepted => flag(readings::accepted::accepted_of(w, i)),
+        Reading::Query => flag(standing::query_of(w, i)),
+        Reading::Accepted => flag(acceptance::accepted_of(w, i)),
         Reading::Lead => readings::lead::lead_of(w, i),
         Reading::Confidence => confidence_value(w, i),
         Reading::Size => size_value(w, i),

@@ -7,6 +7,7 @@ use native.Mathlib.Numerals.{add-one}
 use native.Mathlib.Omega.{arith}
 use lib.ListN.{length, getD, set, take}
 use lib.Seq.{sets, take-suc, length-take-le}
+use Rattle.rules.specs.Layout.{slotAt, preferredField, lastField, counterField, heldField, withEntry}
 
 sets-snoc : (vs w : List ℕ) (b a : ℕ) → sets w b (vs ++ (a ∷ [])) ≡ set (sets w b vs) (b + length vs) a
 sets-snoc [] w b a = rw add-zero
@@ -17,3 +18,12 @@ pub sets-more : (w row : List ℕ) (b f k : ℕ) → f < length row → k ≡ b 
 sets-more w row b f k h q =
     let e : length (take f row) ≡ f = length-take-le f row (omega arith) in
     rw (q, add-one, take-suc row f 0 h, sets-snoc, e)
+
+-- an entry of four words, each by its name
+pub sets-entry : (w : List ℕ) (s a b c d : ℕ)
+    → sets w (slotAt s 0) (a ∷ b ∷ c ∷ d ∷ []) ≡ withEntry (withEntry (withEntry (withEntry w s preferredField a) s lastField b) s counterField c) s heldField d
+sets-entry w s a b c d =
+    let e : suc (slotAt s preferredField) ≡ slotAt s lastField = omega arith in
+    let f : suc (slotAt s lastField) ≡ slotAt s counterField = omega arith in
+    let g : suc (slotAt s counterField) ≡ slotAt s heldField = omega arith in
+    rw (e, f, g)

@@ -4,7 +4,7 @@ ghost use mathlib.Core.Path.{_≡_};
 ghost use Prim.Native.Nat.{_<_};
 ghost use lib.ListN.{length};
 ghost use lib.Seq.{sets};
-ghost use Rattle.rules.specs.Layout.{size, mostBookings, slots, recordWords, slotWords, none, bookings, recordAt, slotAt, heldIn};
+ghost use Rattle.rules.specs.Layout.{size, mostBookings, slots, recordWords, none, bookings, recordAt, heldIn};
 ghost use Rattle.rules.specs.Book.{entered};
 ghost use Rattle.rules.specs.Sound.{Ledger};
 ghost use Rattle.booking.specs.Numbered.{newRow, bookedWith};
@@ -43,16 +43,6 @@ fn put_record(w: &mut [u16], i: usize, row: &[u16])
     }
 }
 
-// All the words of slot entry s.
-fn put_entry(w: &mut [u16], s: usize, row: &[u16])
-    requires { ⌜ (length (now w) ≡ size) × (s < slots) × (length (now row) ≡ slotWords) ⌝ }
-    ensures { λ _. ⌜ now (w .exit) ≡ sets (now (w .entry)) (slotAt s 0) (now (row .entry)) ⌝ }
-{
-    for f in 0..layout::SLOT_WORDS {
-        words::set_entry(w, s, f, row[f]);
-    }
-}
-
 // The first booking of a slot is preferred and last there; a later one is only counted.
 fn enter_slot(w: &mut [u16], s: usize, i: u16)
     requires { ⌜ (length (now w) ≡ size) × (s < slots) × (heldIn (now w) s < none) ⌝ }
@@ -60,8 +50,10 @@ fn enter_slot(w: &mut [u16], s: usize, i: u16)
 {
     let held = words::get_entry(w, s, layout::HELD);
     if held == 0 {
-        let row: [u16; layout::SLOT_WORDS] = [i, i, 0, 1];
-        put_entry(w, s, &row);
+        words::set_entry(w, s, layout::PREFERRED, i);
+        words::set_entry(w, s, layout::LAST, i);
+        words::set_entry(w, s, layout::COUNTER, 0);
+        words::set_entry(w, s, layout::HELD, 1);
     } else {
         words::set_entry(w, s, layout::HELD, held + 1);
     }

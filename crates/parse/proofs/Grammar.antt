@@ -1,17 +1,34 @@
 -- Laws of what is told from the words in turn: a step takes one number from the words, and a stop makes the line bad.
-use mathlib.Core.Path.{_≡_, refl, sym, ap, _∙_}
-use mathlib.Core.List.{List, [], _∷_}
-use Prim.Native.Nat.{ℕ, _+_, _<_, _≤_}
+use mathlib.Core.Path.{_≡_, sym, ap, _∙_}
+use mathlib.Core.List.{List}
+use Prim.Native.Nat.{ℕ, _<_, _≤_}
 use native.Mathlib.Decide.{decLt}
 use native.Mathlib.Omega.{arith}
 use lib.ListN.{length}
-use Rattle.parse.specs.declared.number.Number.{Number}
-use Rattle.parse.specs.declared.step.Step.the-variants.{Next, Stop}
-use Rattle.parse.specs.Words.{wordsAfter}
-use Rattle.parse.specs.Steps.{wordAfter, endAfter, stepOf}
-use Rattle.parse.specs.Line.{valued, number, nothing}
-use Rattle.parse.proofs.Split.{wordsAfter-next, wordsAfter-end}
-use Rattle.parse.proofs.Walk.{Stepped, step-none, step-next, step-stop}
+use lib.Seq.{sets}
+use Rattle.scan.specs.declared.number.Number.{Number}
+use Rattle.scan.specs.declared.step.Step.the-variants.{Next, Stop}
+use Rattle.scan.specs.Words.{wordsAfter}
+use Rattle.scan.specs.Steps.{stepOf}
+use Rattle.scan.specs.declared.many.Many.{Many}
+use Rattle.parse.specs.declared.command.Command.{Command}
+use Rattle.parse.specs.declared.command.Command.the-variants.{Bad}
+use Rattle.scan.specs.Numbers.{nameOf, voteOf}
+use Rattle.scan.specs.Lists.{parentsMost, votesMost, Listed}
+use Rattle.parse.specs.Line.{
+  number,
+  nothing,
+  Said,
+  alone,
+  bookWith,
+  bookWords,
+  pollWith,
+  pollWords,
+  Booked,
+  Polled,
+}
+use Rattle.scan.proofs.Split.{wordsAfter-next, wordsAfter-end}
+use Rattle.scan.proofs.Walk.{Stepped, step-none, step-next, step-stop}
 
 module _ (reader : List ℕ → Number) (line : List ℕ) (at : ℕ) where
   -- a step is made only where there is a word
@@ -42,3 +59,29 @@ module _ (line : List ℕ) (at : ℕ) {A : Type 0} (bad a : A) where
 
   pub nothing-more : at < length line → nothing bad (wordsAfter line at) a ≡ bad
   nothing-more h = rw (wordsAfter-next line at h)
+
+-- ---- what the buffers then hold
+
+-- a bad line that read no list leaves its buffer
+pub booked-bad : {said : Said} (parents : List ℕ) → said ≡ alone Bad → Booked said parents Bad parents
+booked-bad parents e = record { answer = sym (ap (λ s. s .command) e); after = sym (ap (λ s. sets parents 0 (s .parents)) e) }
+
+pub polled-bad : {said : Said} (votes : List ℕ) → said ≡ alone Bad → Polled said votes Bad votes
+polled-bad votes e = record { answer = sym (ap (λ s. s .command) e); after = sym (ap (λ s. sets votes 0 (s .votes)) e) }
+
+-- a list that was read is the command's, whether or not it made a good line
+pub booked-listed : {said : Said} {parents parents′ : List ℕ} {many : Many} {r : Command} (name slot : ℕ) (ws : List (List ℕ))
+    → said ≡ bookWords name slot ws → Listed nameOf parentsMost ws parents many parents′ → r ≡ bookWith name slot many → Booked said parents r parents′
+booked-listed {said} {parents} name slot ws e l q =
+    record {
+      answer = q ∙ ap (bookWith name slot) (l .many) ∙ sym (ap (λ s. s .command) e);
+      after = l .after ∙ sym (ap (λ s. sets parents 0 (s .parents)) e);
+    }
+
+pub polled-listed : {said : Said} {votes votes′ : List ℕ} {many : Many} {r : Command} (name : ℕ) (ws : List (List ℕ))
+    → said ≡ pollWords name ws → Listed voteOf votesMost ws votes many votes′ → r ≡ pollWith name many → Polled said votes r votes′
+polled-listed {said} {votes} name ws e l q =
+    record {
+      answer = q ∙ ap (pollWith name) (l .many) ∙ sym (ap (λ s. s .command) e);
+      after = l .after ∙ sym (ap (λ s. sets votes 0 (s .votes)) e);
+    }

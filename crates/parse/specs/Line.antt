@@ -1,19 +1,21 @@
 -- Document 01, "The text program": what a line says. The whole line is judged before any call is made.
 use Prim.Native.Nat.{ℕ, _≤_}
+use mathlib.Core.Path.{_≡_}
 use mathlib.Core.Bool.{cond}
 use mathlib.Core.List.{List, [], _∷_}
 use lib.ListN.{getD}
+use lib.Seq.{sets}
 use lib.Dec.{ltb}
 use Rattle.rules.specs.declared.setting.Setting.{Setting}
-use Rattle.parse.specs.declared.number.Number.{Number}
-use Rattle.parse.specs.declared.number.Number.the-variants.{Value, Bad as NoNumber}
-use Rattle.parse.specs.declared.many.Many.{Many}
-use Rattle.parse.specs.declared.many.Many.the-variants.{Count, Refused}
-use Rattle.parse.specs.declared.command.Reading.{Reading}
+use Rattle.scan.specs.declared.number.Number.{Number}
+use Rattle.scan.specs.declared.number.Number.the-variants.{Value, Bad as NoNumber}
+use Rattle.scan.specs.declared.many.Many.{Many}
+use Rattle.scan.specs.declared.many.Many.the-variants.{Count, Refused}
+use Rattle.rules.specs.declared.answer.Reading.{Reading}
 use Rattle.parse.specs.declared.command.Command.{Command}
 use Rattle.parse.specs.declared.command.Command.the-variants.{Open, Book, Poll, Read, List as ListAll, Bad}
-use Rattle.parse.specs.declared.keyword.Keyword.{Keyword}
-use Rattle.parse.specs.declared.keyword.Keyword.the-variants.{
+use Rattle.scan.specs.declared.keyword.Keyword.{Keyword}
+use Rattle.scan.specs.declared.keyword.Keyword.the-variants.{
   Open as openWord,
   Book as bookWord,
   Poll as pollWord,
@@ -21,10 +23,10 @@ use Rattle.parse.specs.declared.keyword.Keyword.the-variants.{
   List as listWord,
   Unknown,
 }
-use Rattle.parse.specs.Words.{words}
-use Rattle.parse.specs.Numbers.{shortMost, nameOf, shortOf, voteOf}
-use Rattle.parse.specs.Keywords.{keywordOf}
-use Rattle.parse.specs.Lists.{openMost, parentsMost, votesMost, leading, manyOf}
+use Rattle.scan.specs.Words.{words}
+use Rattle.scan.specs.Numbers.{shortMost, nameOf, shortOf, voteOf}
+use Rattle.scan.specs.Keywords.{keywordOf}
+use Rattle.scan.specs.Lists.{openMost, parentsMost, votesMost, leading, manyOf}
 
 -- ---- what is told from the words in turn
 
@@ -77,22 +79,25 @@ abbrev pub bookWith : ℕ → ℕ → Many → Command
 bookWith name slot (Count n) = Book name slot n
 bookWith name slot Refused = Bad
 
+abbrev pub bookWords : ℕ → ℕ → List (List ℕ) → Said
+bookWords name slot ws =
+    record { command = bookWith name slot (manyOf nameOf parentsMost ws); parents = leading nameOf parentsMost ws; votes = [] }
+
 -- name slot parents
 unfoldable pub bookSays : List (List ℕ) → Said
-bookSays ws =
-    number (alone Bad) nameOf ws (λ name ws.
-    number (alone Bad) shortOf ws (λ slot ws.
-    record { command = bookWith name slot (manyOf nameOf parentsMost ws); parents = leading nameOf parentsMost ws; votes = [] }))
+bookSays ws = number (alone Bad) nameOf ws (λ name ws. number (alone Bad) shortOf ws (λ slot ws. bookWords name slot ws))
 
 abbrev pub pollWith : ℕ → Many → Command
 pollWith name (Count n) = Poll name n
 pollWith name Refused = Bad
 
+abbrev pub pollWords : ℕ → List (List ℕ) → Said
+pollWords name ws =
+    record { command = pollWith name (manyOf voteOf votesMost ws); parents = []; votes = leading voteOf votesMost ws }
+
 -- name votes
 unfoldable pub pollSays : List (List ℕ) → Said
-pollSays ws =
-    number (alone Bad) nameOf ws (λ name ws.
-    record { command = pollWith name (manyOf voteOf votesMost ws); parents = []; votes = leading voteOf votesMost ws })
+pollSays ws = number (alone Bad) nameOf ws (λ name ws. pollWords name ws)
 
 -- ---- the line
 
@@ -110,3 +115,18 @@ wordsSay (w ∷ ws) = keywordSays (keywordOf w) ws
 
 unfoldable pub lineSays : List ℕ → Said
 lineSays line = wordsSay (words line)
+
+-- ---- what reading a line leaves: the command, and its numbers at the start of the buffers; the rest of each buffer stays
+
+pub record Booked (said : Said) (parents : List ℕ) (r : Command) (parents′ : List ℕ) : Type 0 where
+  pub answer : r ≡ said .command
+  pub after : parents′ ≡ sets parents 0 (said .parents)
+
+pub record Polled (said : Said) (votes : List ℕ) (r : Command) (votes′ : List ℕ) : Type 0 where
+  pub answer : r ≡ said .command
+  pub after : votes′ ≡ sets votes 0 (said .votes)
+
+pub record Parsed (line parents votes : List ℕ) (r : Command) (parents′ votes′ : List ℕ) : Type 0 where
+  pub answer : r ≡ (lineSays line) .command
+  pub parentsAfter : parents′ ≡ sets parents 0 ((lineSays line) .parents)
+  pub votesAfter : votes′ ≡ sets votes 0 ((lineSays line) .votes)

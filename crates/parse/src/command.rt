@@ -1,14 +1,6 @@
 // What a line asks for.
+use rules::answer::Reading;
 use rules::setting::Setting;
-
-// Which reading of a booking.
-pub enum Reading {
-    Query,
-    Accepted,
-    Lead,
-    Confidence,
-    Size,
-}
 
 // The parents of a booking and the votes of a poll stand in the lent buffers: here is how many.
 pub enum Command {

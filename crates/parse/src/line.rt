@@ -1,18 +1,30 @@
 // What follows the first word of a line, for each command.
 use crate::command::Command;
-use crate::command::Reading;
-use crate::many::Many;
-use crate::many::read_numbers;
-use crate::many::read_votes;
-use crate::step::Step;
-use crate::step::next_number;
+use rules::answer::Reading;
 use rules::setting::Setting;
+use scan::many::Many;
+use scan::many::read_numbers;
+use scan::many::read_votes;
+use scan::step::Step;
+use scan::step::next_number;
 ghost use mathlib.Core.Path.{_≡_};
 ghost use lib.ListN.{length};
-ghost use lib.Seq.{sets};
 ghost use Prim.Native.Nat.{_≤_};
-ghost use Rattle.parse.specs.Words.{wordsAfter};
-ghost use Rattle.parse.specs.Line.{AllShort, bookSays, openSays, pollSays, readSays, settingOf};
+ghost use Rattle.scan.specs.Words.{wordsAfter};
+ghost use Rattle.scan.specs.Lists.{parentsMost, votesMost};
+ghost use Rattle.parse.specs.Line.{
+  AllShort,
+  Booked,
+  Polled,
+  bookSays,
+  bookWith,
+  nothing,
+  openSays,
+  pollSays,
+  pollWith,
+  readSays,
+  settingOf,
+};
 
 // The largest name.
 const NAME_MOST: u64 = 18446744073709551615;
@@ -33,6 +45,7 @@ fn setting_of(four: &[u64; 4]) -> Setting
     }
 }
 
+// k, a, beta1 and beta2.
 pub(crate) fn read_open(line: &[u8], at: usize) -> Command
     requires { ⌜ at ≤ length (now line) ⌝ }
     ensures { λ r. ⌜ r ≡ openSays (wordsAfter (now (line .entry)) at) ⌝ }
@@ -47,6 +60,7 @@ pub(crate) fn read_open(line: &[u8], at: usize) -> Command
     Command::Open(setting_of(&four))
 }
 
+// One name.
 pub(crate) fn read_reading(line: &[u8], at: usize, reading: Reading) -> Command
     ensures { λ r. ⌜ r ≡ readSays reading (wordsAfter (now (line .entry)) at) ⌝ }
 {
@@ -57,4 +71,63 @@ pub(crate) fn read_reading(line: &[u8], at: usize, reading: Reading) -> Command
         return Command::Bad;
     }
     Command::Read { reading, name }
+}
+
+// The command, once the parents are counted.
+fn book_with(name: u64, slot: u16, many: Many) -> Command
+    ensures { λ r. ⌜ r ≡ bookWith name slot many ⌝ }
+{
+    match many {
+        Many::Count(count) => Command::Book { name, slot, count },
+        Many::Refused => Command::Bad,
+    }
+}
+
+// A name, a slot and the parents.
+pub(crate) fn read_book(line: &[u8], at: usize, parents: &mut [u64]) -> Command
+    requires { ⌜ length (now parents) ≡ parentsMost ⌝ }
+    ensures { λ r. ⌜ Booked (bookSays (wordsAfter (now (line .entry)) at)) (now (parents .entry)) r (now (parents .exit)) ⌝ }
+{
+    let Step::Next(name, after_name) = next_number(line, at, NAME_MOST) else {
+        return Command::Bad;
+    };
+    let Step::Next(slot, after_slot) = next_number(line, after_name, SHORT_MOST) else {
+        return Command::Bad;
+    };
+    book_with(
+        name,
+        slot as u16,
+        read_numbers(line, after_slot, NAME_MOST, parents),
+    )
+}
+
+// The command, once the votes are counted.
+fn poll_with(name: u64, many: Many) -> Command
+    ensures { λ r. ⌜ r ≡ pollWith name many ⌝ }
+{
+    match many {
+        Many::Count(count) => Command::Poll { name, count },
+        Many::Refused => Command::Bad,
+    }
+}
+
+// A name and the votes.
+pub(crate) fn read_poll(line: &[u8], at: usize, votes: &mut [u8]) -> Command
+    requires { ⌜ length (now votes) ≡ votesMost ⌝ }
+    ensures { λ r. ⌜ Polled (pollSays (wordsAfter (now (line .entry)) at)) (now (votes .entry)) r (now (votes .exit)) ⌝ }
+{
+    let Step::Next(name, end) = next_number(line, at, NAME_MOST) else {
+        return Command::Bad;
+    };
+    poll_with(name, read_votes(line, end, votes))
+}
+
+// Nothing.
+pub(crate) fn read_list(line: &[u8], at: usize) -> Command
+    ensures { λ r. ⌜ r ≡ nothing Command.Bad (wordsAfter (now (line .entry)) at) Command.List ⌝ }
+{
+    if at < line.len() {
+        return Command::Bad;
+    }
+    Command::List
 }

@@ -1,6 +1,6 @@
 -- Laws of what is printed: how long a field and a value are, and one field more of a row.
-use mathlib.Core.Path.{_≡_, refl, sym, ap, _∙_}
-use mathlib.Core.List.{List, [], _∷_, _++_}
+use mathlib.Core.Path.{_≡_, sym, ap}
+use mathlib.Core.List.{List, _++_}
 use Prim.Native.Nat.{ℕ, suc, _+_, _^_, _<_, _≤_}
 use native.Mathlib.Numerals.{add-one}
 use native.Mathlib.Decide.{decLt}
@@ -12,7 +12,7 @@ use mir.Syntax.{w64}
 use mir.Val.{SFits}
 use borrow.Author.Tests.{lt-ltb, le-ltb}
 use Rattle.print.specs.Put.{Put}
-use Rattle.print.specs.Decimal.{decimal, sign, signed}
+use Rattle.print.specs.Decimal.{signed}
 use Rattle.print.specs.Print.{field, fieldMost, endOf, endAt, rowPrints}
 use Rattle.print.proofs.Puts.{put-then, put-none}
 use Rattle.print.proofs.Decimals.{decimal-length}

@@ -6,12 +6,12 @@ use lib.IntN.{ℤ, pos, negsuc, natAbs}
 use lib.Dec.{ltb}
 use Rattle.text.specs.Bytes.{minus, digit}
 
--- one digit, or the digits of a tenth and then the last; f bounds how many follow
+-- a digit alone below ten, else the digits of the tenth and then the last; f bounds how often a tenth is taken
 unfoldable pub digitsOf : ℕ → ℕ → List ℕ
 digitsOf zero n = digit n ∷ []
 digitsOf (suc f) n = elim (ltb n 10) [ true ↦ digit n ∷ [] | false ↦ digitsOf f (n / 10) ++ (digit (n % 10) ∷ []) ]
 
--- n bounds how many digits it has
+-- n tenths are more than enough
 unfoldable pub decimal : ℕ → List ℕ
 decimal n = digitsOf n n
 

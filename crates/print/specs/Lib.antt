@@ -1,4 +1,4 @@
--- What the text program reads and prints.
+-- What the text program prints.
 pub mod Put
 pub mod Decimal
 pub mod Print

@@ -9,7 +9,6 @@ use put::put_text;
 use rules::answer::Answer;
 use rules::answer::Refusal;
 ghost use mathlib.Core.Path.{_≡_};
-ghost use mathlib.Core.List.{[], _∷_};
 ghost use Prim.Native.Nat.{_+_, _*_, _<_, _≤_};
 ghost use lib.ListN.{length};
 ghost use Rattle.print.specs.Put.{Put, Room};
@@ -27,6 +26,7 @@ ghost use Rattle.print.specs.Print.{
   tooLong,
 };
 
+// A line that is no command.
 pub fn put_bad_line(out: &mut [u8], at: usize) -> usize
     requires { ⌜ Room (now out) at badLine ⌝ }
     ensures { λ r. ⌜ Put (now (out .entry)) at badLine r (now (out .exit)) ⌝ }
@@ -34,6 +34,7 @@ pub fn put_bad_line(out: &mut [u8], at: usize) -> usize
     put_text(out, at, b"bad line\n")
 }
 
+// An input that is longer than what is read.
 pub fn put_too_long(out: &mut [u8], at: usize) -> usize
     requires { ⌜ Room (now out) at tooLong ⌝ }
     ensures { λ r. ⌜ Put (now (out .entry)) at tooLong r (now (out .exit)) ⌝ }
@@ -41,6 +42,7 @@ pub fn put_too_long(out: &mut [u8], at: usize) -> usize
     put_text(out, at, b"input too long\n")
 }
 
+// The first line of the listing.
 pub fn put_list_header(out: &mut [u8], at: usize) -> usize
     requires { ⌜ Room (now out) at listHeader ⌝ }
     ensures { λ r. ⌜ Put (now (out .entry)) at listHeader r (now (out .exit)) ⌝ }
@@ -61,6 +63,7 @@ fn put_field(out: &mut [u8], at: usize, v: u64, after: u8) -> usize
     put_byte(out, next, after)
 }
 
+// A refusal and its number.
 fn put_refusal(out: &mut [u8], at: usize, refusal: Refusal) -> usize
     requires { ⌜ at + answerMost ≤ length (now out) ⌝ }
     ensures { λ r. ⌜ Put (now (out .entry)) at (refusalPrints refusal) r (now (out .exit)) ⌝ }

@@ -7,6 +7,7 @@ ghost use Rattle.print.specs.Put.{Put, Room};
 ghost use Rattle.text.specs.Bytes.{digit};
 ghost use Rattle.print.specs.Decimal.{decimal, sign, signed};
 
+// One byte.
 pub(crate) fn put_byte(out: &mut [u8], at: usize, byte: u8) -> usize
     requires { ⌜ Room (now out) at (byte ∷ []) ⌝ }
     ensures { λ r. ⌜ Put (now (out .entry)) at (byte ∷ []) r (now (out .exit)) ⌝ }
@@ -15,6 +16,7 @@ pub(crate) fn put_byte(out: &mut [u8], at: usize, byte: u8) -> usize
     at + 1
 }
 
+// A text, byte by byte.
 pub(crate) fn put_text(out: &mut [u8], at: usize, text: &[u8]) -> usize
     requires { ⌜ Room (now out) at (now text) ⌝ }
     ensures { λ r. ⌜ Put (now (out .entry)) at (now (text .entry)) r (now (out .exit)) ⌝ }
@@ -66,6 +68,7 @@ fn put_sign(out: &mut [u8], at: usize, v: i64) -> usize
     }
 }
 
+// The sign, and then the number without it.
 pub(crate) fn put_signed(out: &mut [u8], at: usize, v: i64) -> usize
     requires { ⌜ Room (now out) at (signed v) ⌝ }
     ensures { λ r. ⌜ Put (now (out .entry)) at (signed v) r (now (out .exit)) ⌝ }

@@ -4,34 +4,34 @@ use mathlib.Core.Path.{_≡_, refl, sym, ap, _∙_}
 use mathlib.Core.Bool.{Bool, true, false}
 use mathlib.Core.List.{List}
 use mathlib.Core.Logic.{⊎-elim}
-use Prim.Native.Nat.{ℕ, zero, suc, _<_, _≤_}
+use Prim.Native.Nat.{ℕ, zero, suc, _<_}
 use native.Mathlib.Omega.{arith}
 use lib.IntN.{pos, natAbs}
 use lib.Dec.{eqb}
 use borrow.Author.Tests.{eq-eqb}
 use Rattle.loops.specs.Total.{bit}
-use Rattle.loops.proofs.Total.{count-some, count-one}
+use Rattle.loops.proofs.Total.{count-one}
 use Rattle.rules.specs.declared.answer.Answer.the-variants.{Taken}
-use Rattle.rules.specs.Layout.{slots, bookings, slotOf, nameOf, preferredIn, heldIn}
+use Rattle.rules.specs.Layout.{bookings, slotOf, nameOf, preferredIn, heldIn}
 use Rattle.rules.specs.IsSound.{bookingsOf}
 use Rattle.rules.specs.Readings.{acceptedOf}
 use Rattle.rules.specs.Book.{lookUp, numberOf}
 use Rattle.rules.specs.Calls.{acceptedCall}
 use Rattle.rules.specs.Sound.{Sound, Ledger}
 use Rattle.rules.proofs.Lookup.{found-is}
-use Rattle.rules.proofs.Accepted.{FirstArm, SecondArm, accepted-is}
+use Rattle.rules.specs.Told.{FirstArm, SecondArm}
+use Rattle.rules.proofs.Slots.{slot-held}
+use Rattle.rules.proofs.Accepted.{accepted-is}
 use Rattle.promises.specs.Acceptance.{AcceptedOnce, AcceptedCallOnce}
 use Rattle.promises.proofs.Taken.{reading-taken}
 
 module _ (w : List ℕ) (sound : Sound w) where
   -- a slot with one booking has no two
-  held-one : (i j : ℕ) → i < bookings w → j < bookings w → slotOf w i ≡ slotOf w j → slotOf w i < slots → heldIn w (slotOf w i) ≡ 1 → i ≡ j
+  held-one : (i j : ℕ) → i < bookings w → j < bookings w → slotOf w i ≡ slotOf w j → heldIn w (slotOf w i) ≡ 1 → i ≡ j
   unfolding bookingsOf
-  held-one i j hi hj same inRange alone =
-      let own : eqb (slotOf w i) (slotOf w i) ≡ true = eq-eqb (slotOf w i) _ refl in
-      let some : 1 ≤ bookingsOf w (slotOf w i) = count-some (λ k. eqb (slotOf w k) (slotOf w i)) (bookings w) i hi own in
-      let held : heldIn w (slotOf w i) ≡ bookingsOf w (slotOf w i) = sound .heldEntry (slotOf w i) inRange (λ e. omega arith) .held in
-      count-one (λ k. eqb (slotOf w k) (slotOf w i)) (bookings w) i j (sym held ∙ alone) hi hj own (eq-eqb _ _ (sym same))
+  held-one i j hi hj same alone =
+      count-one (λ k. eqb (slotOf w k) (slotOf w i)) (bookings w) i j (sym (slot-held w sound i hi .held) ∙ alone) hi hj
+      (eq-eqb (slotOf w i) _ refl) (eq-eqb _ _ (sym same))
 
   -- nor has slot 0
   genesis-alone : (i : ℕ) → i < bookings w → slotOf w 0 ≡ slotOf w i → 0 ≡ i
@@ -42,12 +42,11 @@ module _ (w : List ℕ) (sound : Sound w) where
   accepted-slot-unique zero j hi hj same ai aj = genesis-alone j hj same
   accepted-slot-unique (suc i) zero hi hj same ai aj = sym (genesis-alone (suc i) hi (sym same))
   accepted-slot-unique (suc i) (suc j) hi hj same ai aj =
-      let inRange : (k : ℕ) → suc k < bookings w → slotOf w (suc k) < slots = λ k l. sound .booking (suc k) (omega arith) l .slotMost in
       ⊎-elim
-      (λ (f : FirstArm w (suc i)). held-one (suc i) (suc j) hi hj same (inRange i hi) (f .alone))
+      (λ (f : FirstArm w (suc i)). held-one (suc i) (suc j) hi hj same (f .alone))
       (λ (p : SecondArm w (suc i)).
       ⊎-elim
-      (λ (f : FirstArm w (suc j)). sym (held-one (suc j) (suc i) hj hi (sym same) (inRange j hj) (f .alone)))
+      (λ (f : FirstArm w (suc j)). sym (held-one (suc j) (suc i) hj hi (sym same) (f .alone)))
       (λ (q : SecondArm w (suc j)). sym (p .preferred) ∙ ap (preferredIn w) same ∙ q .preferred)
       (accepted-is w sound (suc j) hj (omega arith) .0 aj))
       (accepted-is w sound (suc i) hi (omega arith) .0 ai)

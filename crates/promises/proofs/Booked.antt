@@ -1,14 +1,9 @@
 -- A taken booking leaves a ledger, in which every booking of before stays and the preferred one still leads its slot.
-use mathlib.Core.Path.{_≡_, refl, _∙_}
+use mathlib.Core.Path.{_≡_, _∙_}
 use mathlib.Core.List.{List}
-use mathlib.Core.Logic.{_≢_}
-use Prim.Native.Nat.{ℕ, zero, suc, _+_, _<_, _≤_}
+use Prim.Native.Nat.{ℕ, _+_, _<_, _≤_}
 use native.Mathlib.Omega.{arith}
-use lib.Dec.{eqb}
-use borrow.Author.Tests.{eq-eqb}
-use Rattle.loops.proofs.Total.{count-some}
 use Rattle.rules.specs.Layout.{
-  slots,
   recordWords,
   spareField,
   slotField,
@@ -23,9 +18,9 @@ use Rattle.rules.specs.Layout.{
   confidenceOf,
   preferredIn,
 }
-use Rattle.rules.specs.IsSound.{bookingsOf}
 use Rattle.rules.specs.Sound.{Sound, Ledger}
 use Rattle.rules.specs.Book.{booked}
+use Rattle.rules.proofs.Slots.{bookingsOf-some, slotOf-lt, preferredIn-lt}
 use Rattle.promises.specs.Lasting.{Grown}
 use Rattle.promises.proofs.Taken.{Bookable, Led}
 use Rattle.promises.proofs.BookedWords.{
@@ -51,23 +46,6 @@ use Rattle.promises.proofs.BookedRecords.{
   field-booked-rest,
 }
 use Rattle.promises.proofs.BookedSlots.{entry-booked-kept, EmptyEntry-booked, HeldEntry-booked, counterIn-booked-most}
-
--- ---- a booking's slot on a ledger: it is within the limit and has bookings, of which the preferred is one
-
-module _ (w : List ℕ) (sound : Sound w) where
-  pub slotOf-lt : (i : ℕ) → i < bookings w → slotOf w i < slots
-  slotOf-lt zero u = omega (arith, sound .genesisSlot)
-  slotOf-lt (suc i) u = sound .booking (suc i) (omega arith) u .slotMost
-
-  module _ (i : ℕ) (below : i < bookings w) where
-    pub bookingsOf-some : bookingsOf w (slotOf w i) ≢ 0
-    unfolding bookingsOf
-    bookingsOf-some e = omega (arith, count-some (λ j. eqb (slotOf w j) (slotOf w i)) (bookings w) i below (eq-eqb (slotOf w i) (slotOf w i) refl))
-
-    pub preferredIn-lt : preferredIn w (slotOf w i) < bookings w
-    preferredIn-lt = sound .heldEntry (slotOf w i) (slotOf-lt i below) bookingsOf-some .preferred .below
-
--- ---- after a taken booking
 
 module _ (w : List ℕ) (name slot : ℕ) (parents : List ℕ) (ledger : Ledger w) (bookable : Bookable w name slot parents) where
   -- the genesis is one of the old records
@@ -119,7 +97,7 @@ module _ (w : List ℕ) (name slot : ℕ) (parents : List ℕ) (ledger : Ledger 
   preferred-kept : (i : ℕ) → i < bookings w → preferredIn (booked w name slot parents) (slotOf w i) ≡ preferredIn w (slotOf w i)
   preferred-kept i u =
       entry-booked-kept w name slot parents ledger bookable (slotOf w i) preferredField (slotOf-lt w (ledger .sound) i u)
-      (bookingsOf-some w (ledger .sound) i u) (omega arith) (omega arith)
+      (bookingsOf-some w i u) (omega arith) (omega arith)
 
   -- and the new one has no confidence, whomever its slot prefers
   pub booked-led : Led w → Led (booked w name slot parents)

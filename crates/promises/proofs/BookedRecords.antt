@@ -17,7 +17,6 @@ use Rattle.rules.specs.Layout.{
   recordWords,
   none,
   slotField,
-  parentsField,
   stateField,
   confidenceField,
   ordinalField,
@@ -34,6 +33,7 @@ use Rattle.rules.specs.Sound.{Booking, Ledger}
 use Rattle.rules.specs.Book.{numberOf, parentFound, newRecord, booked}
 use Rattle.rules.proofs.Lookup.{parent-found, parent-below, found-name}
 use Rattle.promises.proofs.Taken.{Bookable}
+use Rattle.promises.proofs.Unchanged.{Booking-kept}
 use Rattle.promises.proofs.BookedWords.{
   bookings-booked,
   field-booked-other,
@@ -46,25 +46,6 @@ use Rattle.promises.proofs.BookedWords.{
   confidenceOf-booked-same,
   ordinalOf-booked-same,
 }
-
--- a record that stays is a booking still
-Booking-kept : (w u : List ℕ) (i : ℕ) → ((g : ℕ) → g < recordWords → field u i g ≡ field w i g) → Booking w i → Booking u i
-Booking-kept w u i same b = record {
-  slotLeast = omega (arith, same slotField (omega arith));
-  slotMost = omega (arith, same slotField (omega arith));
-  parentSome = (b .parentSome .0, b .parentSome .1, λ e. b .parentSome .2 (sym (parent (b .parentSome .0) (b .parentSome .1)) ∙ e));
-  unusedAfter = λ x y l v e. parent y v ∙ b .unusedAfter x y l v (sym (parent x (omega arith)) ∙ e);
-  parentsDistinct = λ x y l v q e. b .parentsDistinct x y l v (λ z. q (parent y v ∙ z)) (sym (parent x (omega arith)) ∙ e ∙ parent y v);
-  parentsLower = λ x v q. omega (arith, parent x v, b .parentsLower x v (λ z. q (parent x v ∙ z)));
-  stateKnown = omega (arith, same stateField (omega arith));
-  ordinalWaiting = (
-    λ e. same stateField (omega arith) ∙ b .ordinalWaiting .0 (sym (same ordinalField (omega arith)) ∙ e),
-    λ e. same ordinalField (omega arith) ∙ b .ordinalWaiting .1 (sym (same stateField (omega arith)) ∙ e),
-  );
-}
-  where
-    parent : (a : ℕ) → a < mostParents → parentOf u i a ≡ parentOf w i a
-    parent a l = same (parentsField + a) (omega arith)
 
 module _ (w : List ℕ) (name slot : ℕ) (parents : List ℕ) where
   abbrev after : List ℕ
@@ -164,7 +145,7 @@ module _ (w : List ℕ) (name slot : ℕ) (parents : List ℕ) where
     pub Booking-booked : (i : ℕ) → i < bookings after → 0 < i → Booking after i
     Booking-booked =
         each-booked (λ i. 0 < i → Booking after i) (λ l. new-booking)
-        (λ i u l. Booking-kept w after i (λ g h. field-booked-old i g u h) (ledger .sound .booking i l u))
+        (λ i u l. Booking-kept w after i (λ g h d. field-booked-old i g u h) (ledger .sound .booking i l u))
 
     pub nameOf-booked-alone : (i : ℕ) → i < bookings after → (j : ℕ) → j < bookings after → i ≢ j → nameOf after i ≢ nameOf after j
     nameOf-booked-alone =

@@ -28,6 +28,7 @@ use Rattle.rules.specs.IsSound.{chits, bookingsOf}
 use Rattle.rules.specs.Sound.{BookingOf, EmptyEntry, HeldEntry, Ledger}
 use Rattle.rules.specs.Book.{booked}
 use Rattle.promises.proofs.Taken.{Bookable}
+use Rattle.promises.proofs.Unchanged.{EmptyEntry-kept}
 use Rattle.promises.proofs.Entered.{firstEntry}
 use Rattle.promises.proofs.BookedWords.{
   bookings-booked,
@@ -100,13 +101,7 @@ module _ (w : List ℕ) (name slot : ℕ) (parents : List ℕ) where
     pub EmptyEntry-booked : (s : ℕ) → s < slots → bookingsOf after s ≡ 0 → EmptyEntry after s
     EmptyEntry-booked s u z =
         let d : s ≢ slot = λ e. omega (arith, bookingsOf-same, rw e at z) in
-        let old : EmptyEntry w s = ledger .sound .emptyEntry s u (sym (bookingsOf-other s d) ∙ z) in
-        record {
-          noPreferred = other-entry s preferredField (omega arith) d ∙ old .noPreferred;
-          noLast = other-entry s lastField (omega arith) d ∙ old .noLast;
-          noCounter = other-entry s counterField (omega arith) d ∙ old .noCounter;
-          noneHeld = other-entry s heldField (omega arith) d ∙ old .noneHeld;
-        }
+        EmptyEntry-kept w after s (λ g h. other-entry s g h d) (ledger .sound .emptyEntry s u (sym (bookingsOf-other s d) ∙ z))
 
     first-held : bookingsOf w slot ≡ 0 → HeldEntry after slot
     first-held z = record {

@@ -6,9 +6,10 @@ use native.Mathlib.Omega.{arith}
 use Rattle.rules.specs.Layout.{entry, bookings, slotField, preferredField, lastField, counterField, heldField, slotOf, confidenceOf, preferredIn}
 use Rattle.rules.specs.Sound.{Ledger}
 use Rattle.rules.specs.Poll.{failed}
+use Rattle.rules.proofs.Slots.{booking-lt}
+use Rattle.rules.proofs.Noted.{confidence-noted, entry-noted-kept}
 use Rattle.promises.proofs.Taken.{Led}
-use Rattle.promises.proofs.Slots.{booking-lt}
-use Rattle.promises.proofs.Noted.{Noted, confidence-noted, entry-noted-kept, noted-Noted, Noted-bookings}
+use Rattle.promises.proofs.Noted.{Noted, noted-Noted, Noted-bookings}
 use Rattle.promises.proofs.PolledSound.{Gained}
 
 pub confidence-failed : (w : List ℕ) (i j : ℕ) → confidenceOf (failed w i) j ≡ confidenceOf w j

@@ -1,13 +1,13 @@
 -- Where a workspace has grown from a sound one, its older bookings keep their ancestry, as people read it and as marks, and its size.
-use mathlib.Core.Path.{_≡_, refl, sym, ap, ap₂, subst, _∙_}
-use mathlib.Core.Bool.{Bool, true, false, true≢false}
+use mathlib.Core.Path.{_≡_, refl, sym, ap, ap₂, _∙_}
+use mathlib.Core.Bool.{Bool, true, false}
 use mathlib.Core.List.{List, [], _∷_}
 use mathlib.Core.Logic.{_↔_}
 use Prim.Native.Nat.{ℕ, _+_, _-_, _<_, _≤_}
 use native.Mathlib.Omega.{arith}
 use Rattle.loops.specs.Total.{bit, total, count}
 use Rattle.loops.proofs.Total.{total-cut}
-use Rattle.rules.specs.Layout.{bookings, mostParents, parentOf}
+use Rattle.rules.specs.Layout.{bookings}
 use Rattle.rules.specs.Ancestry.{Parent, Reaches, self, up, ancestry, isMember}
 use Rattle.rules.specs.Readings.{sizeOf}
 use Rattle.rules.specs.Sound.{Ledger}

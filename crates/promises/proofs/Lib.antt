@@ -1,6 +1,7 @@
 -- The proofs of the promises. They assume nothing.
 pub mod Taken
 pub mod Grown
+pub mod Unchanged
 pub mod Entered
 pub mod BookedWords
 pub mod BookedRecords
@@ -9,9 +10,7 @@ pub mod Booked
 pub mod Acceptance
 pub mod Refusals
 pub mod Ranges
-pub mod Slots
 pub mod Noted
-pub mod Raised
 pub mod SettledWords
 pub mod Settled
 pub mod Settling
@@ -23,3 +22,4 @@ pub mod Polled
 pub mod Run
 pub mod Kept
 pub mod OfCode
+pub mod Told

@@ -13,7 +13,6 @@ use Rattle.rules.specs.Layout.{
   recordWords,
   header,
   field,
-  entry,
   bookings,
   bookingsField,
   polls,
@@ -24,25 +23,18 @@ use Rattle.rules.specs.Layout.{
   parentsField,
   slotField,
   stateOf,
-  confidenceOf,
   ordinalOf,
-  withHeader,
-  withField,
 }
 use Rattle.rules.specs.Poll.{noted}
-use Rattle.rules.proofs.Words.{
-  length-withHeader,
-  header-withHeader-same,
-  header-withHeader-other,
-  field-withHeader-kept,
-  entry-withHeader-kept,
-  length-withField,
-  header-withField-kept,
-  field-withField-same,
-  field-withField-other,
-  field-withField-beside,
-  entry-withField-kept,
-  nameOf-kept,
+use Rattle.rules.proofs.Words.{nameOf-kept}
+use Rattle.rules.proofs.Noted.{
+  length-noted,
+  polls-noted,
+  header-noted-other,
+  stateOf-noted-same,
+  ordinalOf-noted-same,
+  field-noted-other,
+  field-noted-beside,
 }
 use Rattle.promises.specs.Lasting.{Grown}
 
@@ -58,57 +50,17 @@ pub record Noted (w v : List ℕ) (i state : ℕ) : Type 0 where
   pub stateNow : stateOf v i ≡ state
   pub ordinalNow : ordinalOf v i ≡ polls w + 1
 
--- ---- the words right after noting
-
-module _ (w : List ℕ) (i state : ℕ) where
-  abbrev risen : List ℕ
-  risen = withHeader w pollsField (polls w + 1)
-
-  abbrev stated : List ℕ
-  stated = withField risen i stateField state
-
-  pub length-noted : length (noted w i state) ≡ length w
-  length-noted = length-withField stated i ordinalField (polls w + 1) ∙ length-withField risen i stateField state ∙ length-withHeader w pollsField (polls w + 1)
-
-  header-noted : (g : ℕ) → g < headerWords → header (noted w i state) g ≡ header risen g
-  header-noted g h = header-withField-kept stated i ordinalField (polls w + 1) g h ∙ header-withField-kept risen i stateField state g h
-
-  -- a field that is neither the state nor the ordinal, of any record
-  pub field-noted-beside : (j g : ℕ) → g < recordWords → g ≢ stateField → g ≢ ordinalField → field (noted w i state) j g ≡ field w j g
-  field-noted-beside j g h d e =
-      field-withField-beside stated i ordinalField (polls w + 1) j g (omega arith) h e
-      ∙ field-withField-beside risen i stateField state j g (omega arith) h d
-      ∙ field-withHeader-kept w pollsField (polls w + 1) j g (omega arith)
-
-  field-noted-other : (j g : ℕ) → g < recordWords → j ≢ i → field (noted w i state) j g ≡ field w j g
-  field-noted-other j g h d =
-      field-withField-other stated i ordinalField (polls w + 1) j g (omega arith) h d
-      ∙ field-withField-other risen i stateField state j g (omega arith) h d
-      ∙ field-withHeader-kept w pollsField (polls w + 1) j g (omega arith)
-
-  pub entry-noted-kept : (s g : ℕ) → i < mostBookings → entry (noted w i state) s g ≡ entry w s g
-  entry-noted-kept s g h =
-      entry-withField-kept stated i ordinalField (polls w + 1) s g h (omega arith)
-      ∙ entry-withField-kept risen i stateField state s g h (omega arith)
-      ∙ entry-withHeader-kept w pollsField (polls w + 1) s g (omega arith)
-
-  pub confidence-noted : (j : ℕ) → confidenceOf (noted w i state) j ≡ confidenceOf w j
-  confidence-noted j = field-noted-beside j confidenceField (omega arith) (omega arith) (omega arith)
-
-  pub noted-Noted : length w ≡ size → i < mostBookings → Noted w (noted w i state) i state
-  noted-Noted whole h = record {
-    long = length-noted;
-    head = λ g l d. header-noted g l ∙ header-withHeader-other w pollsField (polls w + 1) g d;
-    more = header-noted pollsField (omega arith) ∙ header-withHeader-same w pollsField (polls w + 1) (omega arith);
-    told = λ j g l u. field-noted-beside j g (omega arith) (omega arith) (omega arith);
-    other = λ j g l u d. field-noted-other j g u;
-    stateNow =
-        field-withField-beside stated i ordinalField (polls w + 1) i stateField (omega arith) (omega arith) (omega arith)
-        ∙ field-withField-same risen i stateField state (omega (arith, length-withHeader w pollsField (polls w + 1)));
-    ordinalNow =
-        field-withField-same stated i ordinalField (polls w + 1)
-        (omega (arith, length-withField risen i stateField state, length-withHeader w pollsField (polls w + 1)));
-  }
+-- the words right after noting
+pub noted-Noted : (w : List ℕ) (i state : ℕ) → length w ≡ size → i < mostBookings → Noted w (noted w i state) i state
+noted-Noted w i state whole h = record {
+  long = length-noted w i state;
+  head = header-noted-other w i state;
+  more = polls-noted w i state (omega arith);
+  told = λ j g l u. field-noted-beside w i state j g (omega arith) (omega arith) (omega arith);
+  other = λ j g l u d. field-noted-other w i state j g u;
+  stateNow = stateOf-noted-same w i state (omega arith);
+  ordinalNow = ordinalOf-noted-same w i state (omega arith);
+}
 
 -- words that differ only in confidences and slot entries have it noted too
 pub Noted-kept : {w v : List ℕ} {i state : ℕ} (u : List ℕ) → i < mostBookings → Noted w v i state

@@ -1,15 +1,13 @@
 -- Each contract is an equation with the law's outcome, so what holds of the law's words holds of the code's.
-use mathlib.Core.Path.{_≡_, refl, sym, ap, subst, _∙_}
-use mathlib.Core.Bool.{true}
+use mathlib.Core.Path.{sym, ap, subst, _∙_}
 use mathlib.Core.List.{List}
-use mathlib.Core.Logic.{_≢_}
 use Prim.Native.Nat.{ℕ}
 use Rattle.rules.specs.declared.answer.Answer.{Answer}
-use Rattle.rules.specs.Answers.{Outcome, outcome, number, value}
-use Rattle.promises.specs.Run.{Call, Open, outcomeOf, isTaken, History, fresh, historyAfter}
+use Rattle.rules.specs.Answers.{Outcome, number, value}
+use Rattle.promises.specs.Run.{outcomeOf, isTaken, History, fresh, historyAfter}
 use Rattle.promises.specs.Acceptance.{AcceptedOnce}
 use Rattle.promises.specs.Refusals.{RefusedKeeps}
-use Rattle.promises.specs.OfCode.{Meets, OutcomeUnique, Ran, opened, called, Kept, CodeKeeps, CodeRefuses}
+use Rattle.promises.specs.OfCode.{OutcomeUnique, Ran, opened, called, CodeKeeps, CodeRefuses}
 use Rattle.promises.proofs.Acceptance.{accepted-once}
 use Rattle.promises.proofs.Refusals.{refused-keeps}
 use Rattle.promises.proofs.Run.{Right, opening-right, step-right}

@@ -2,7 +2,7 @@
 -- each slot's preferred and last are bookings of it still.
 use mathlib.Core.Path.{_≡_, sym, ap, _∙_}
 use mathlib.Core.List.{List}
-use mathlib.Core.Logic.{_≢_, _↔_}
+use mathlib.Core.Logic.{_≢_}
 use Prim.Native.Nat.{ℕ, _+_, _<_, _≤_}
 use native.Mathlib.Decide.{ℕ-discrete}
 use native.Mathlib.Omega.{arith}
@@ -12,27 +12,18 @@ use Rattle.loops.proofs.Total.{total-same, total-other}
 use Rattle.rules.specs.Layout.{
   slots,
   mostBookings,
-  mostParents,
   recordWords,
   slotWords,
   field,
   entry,
   bookings,
   spareField,
-  slotField,
-  parentsField,
   stateField,
   confidenceField,
   ordinalField,
-  preferredField,
-  lastField,
-  counterField,
-  heldField,
   slotOf,
-  parentOf,
   stateOf,
   confidenceOf,
-  ordinalOf,
   preferredIn,
   lastIn,
   counterIn,
@@ -43,6 +34,7 @@ use Rattle.rules.specs.Sound.{Sound, Booking, BookingOf, EmptyEntry, HeldEntry}
 use Rattle.rules.proofs.Words.{settingIn-kept}
 use Rattle.promises.specs.Lasting.{Grown}
 use Rattle.promises.proofs.Taken.{Pollable}
+use Rattle.promises.proofs.Unchanged.{Booking-told, Booking-kept, EmptyEntry-kept}
 use Rattle.promises.proofs.Noted.{Noted, Noted-bookings, Noted→Grown}
 use Rattle.promises.proofs.Ordinals.{
   polled-above,
@@ -62,23 +54,6 @@ pub record Gained (w v : List ℕ) (gain : ℕ) : Type 0 where
   pub preferred : (s : ℕ) → BookingOf w s (preferredIn w s) → BookingOf w s (preferredIn v s)
   pub last : (s : ℕ) → BookingOf w s (lastIn w s) → BookingOf w s (lastIn v s)
   pub counter : (s : ℕ) → counterIn v s ≤ counterIn w s + gain
-
--- a booking whose name, slot and parents stay, with a good state and ordinal
-Booking-told : (w v : List ℕ) (j : ℕ) → ((g : ℕ) → g < stateField → field v j g ≡ field w j g) → Booking w j
-    → stateOf v j ≤ 2 → (ordinalOf v j ≡ 0) ↔ (stateOf v j ≡ 0) → Booking v j
-Booking-told w v j told b known waiting = record {
-  slotLeast = omega (arith, told slotField (omega arith));
-  slotMost = omega (arith, told slotField (omega arith));
-  parentSome = (b .parentSome .0, b .parentSome .1, λ e. b .parentSome .2 (sym (parent (b .parentSome .0) (b .parentSome .1)) ∙ e));
-  unusedAfter = λ x y l u e. parent y u ∙ b .unusedAfter x y l u (sym (parent x (omega arith)) ∙ e);
-  parentsDistinct = λ x y l u q e. b .parentsDistinct x y l u (λ z. q (parent y u ∙ z)) (sym (parent x (omega arith)) ∙ e ∙ parent y u);
-  parentsLower = λ x u q. omega (arith, parent x u, b .parentsLower x u (λ z. q (parent x u ∙ z)));
-  stateKnown = known;
-  ordinalWaiting = waiting;
-}
-  where
-    parent : (a : ℕ) → a < mostParents → parentOf v j a ≡ parentOf w j a
-    parent a l = told (parentsField + a) (omega arith)
 
 module _ (w v : List ℕ) (i state : ℕ) (sound : Sound w) (pollable : Pollable w i) (n : Noted w v i state) where
   few : (j : ℕ) → j < bookings v → j < mostBookings
@@ -116,14 +91,7 @@ module _ (w v : List ℕ) (i state : ℕ) (sound : Sound w) (pollable : Pollable
       Booking-told w v i (λ g h. n .told i g (few i (omega (arith, Noted-bookings n, pollable .below))) h) (sound .booking i l (pollable .below))
       (omega (arith, n .stateNow))
       (λ e. absurd (omega (arith, n .ordinalNow)), λ e. absurd (omega (arith, n .stateNow))))
-      (λ j u d l.
-      let b = sound .booking j l u in
-      let same : (g : ℕ) → g < recordWords → g ≢ confidenceField → field v j g ≡ field w j g = λ g h c. n .other j g (omega (arith, sound .bookingsMost)) h c d in
-      Booking-told w v j (λ g h. same g (omega arith) (omega arith)) b
-      (omega (arith, same stateField (omega arith) (omega arith), b .stateKnown)) (
-        λ e. same stateField (omega arith) (omega arith) ∙ b .ordinalWaiting .0 (sym (same ordinalField (omega arith) (omega arith)) ∙ e),
-        λ e. same ordinalField (omega arith) (omega arith) ∙ b .ordinalWaiting .1 (sym (same stateField (omega arith) (omega arith)) ∙ e),
-      ))
+      (λ j u d l. Booking-kept w v j (λ g h c. n .other j g (omega (arith, sound .bookingsMost)) h c d) (sound .booking j l u))
 
   rest-noted : ((j : ℕ) → bookings w ≤ j → j < mostBookings → confidenceOf v j ≡ confidenceOf w j)
       → (j g : ℕ) → bookings v ≤ j → j < mostBookings → g < recordWords → field v j g ≡ 0
@@ -145,13 +113,7 @@ module _ (w v : List ℕ) (i state : ℕ) (sound : Sound w) (pollable : Pollable
     emptyEntry-noted : (s : ℕ) → s < slots → bookingsOf v s ≡ 0 → EmptyEntry v s
     emptyEntry-noted s u e =
         let none : bookingsOf w s ≡ 0 = sym (bookingsOf-noted s) ∙ e in
-        let before = sound .emptyEntry s u none in
-        record {
-          noPreferred = gained .empty s preferredField none (omega arith) ∙ before .noPreferred;
-          noLast = gained .empty s lastField none (omega arith) ∙ before .noLast;
-          noCounter = gained .empty s counterField none (omega arith) ∙ before .noCounter;
-          noneHeld = gained .empty s heldField none (omega arith) ∙ before .noneHeld;
-        }
+        EmptyEntry-kept w v s (λ g h. gained .empty s g none h) (sound .emptyEntry s u none)
 
     heldEntry-noted : (s : ℕ) → s < slots → bookingsOf v s ≢ 0 → HeldEntry v s
     heldEntry-noted s u q =

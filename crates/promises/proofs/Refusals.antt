@@ -13,13 +13,14 @@ use borrow.Author.Tests.{eqb-true, eq-eqb, leb-true, le-leb, ltb-true, lt-ltb, n
 use Rattle.loops.specs.Search.{any}
 use Rattle.loops.proofs.Search.{any→, →any}
 use Rattle.rules.specs.declared.setting.Setting.{Setting}
+use Rattle.rules.specs.declared.answer.Reading.{Reading}
 use Rattle.rules.specs.declared.answer.Found.{Found}
 use Rattle.rules.specs.declared.answer.Found.the-variants.{At, Absent}
 use Rattle.rules.specs.declared.answer.Refusal.{Refusal}
 use Rattle.rules.specs.declared.answer.Answer.{Answer}
 use Rattle.rules.specs.declared.answer.Answer.the-variants.{Taken, Refused}
 use Rattle.rules.specs.declared.vote.Vote.{Vote}
-use Rattle.rules.specs.Answers.{refusalNumber, number, value, leaves}
+use Rattle.rules.specs.Answers.{refusalNumber, number, value, leaves, done}
 use Rattle.rules.specs.Layout.{size, slots, mostParents, mostBookings, bookings, settingIn, stateOf}
 use Rattle.rules.specs.Setting.{Good, isGood}
 use Rattle.rules.specs.IsSound.{isSound}
@@ -28,6 +29,8 @@ use Rattle.rules.specs.Votes.{voteOf, isRefused, hasRefusedVote}
 use Rattle.rules.specs.Open.{opened}
 use Rattle.rules.specs.Book.{lookUp, isFound, isAbsent, numberOf, parentFound, hasUnknown, hasTwice, booked}
 use Rattle.rules.specs.Poll.{polled}
+use Rattle.rules.specs.Readings.{readingOf}
+use Rattle.rules.specs.Listing.{listCall}
 use Rattle.rules.specs.Calls.{
   openAnswer,
   openCall,
@@ -61,6 +64,7 @@ use Rattle.promises.specs.Refusals.{
   BookListed,
   PollListed,
   ReadingListed,
+  ListListed,
   RefusedListed,
 }
 
@@ -257,5 +261,21 @@ reading-listed f w name =
     asked-first (lookUp w name) _ e (found-tells w name) (λ i found e.
     e))
 
+list-listed : (w : List ℕ) → ListListed w (number (listCall w))
+unfolding listCall
+list-listed w = tested-first w done refl (λ sound e. e)
+
 pub refused-listed : RefusedListed
-refused-listed = record { opening = open-listed; booking = book-listed; polling = poll-listed; reading = reading-listed }
+unfolding queryCall acceptedCall leadCall confidenceCall sizeCall
+refused-listed =
+    record {
+      opening = open-listed;
+      booking = book-listed;
+      polling = poll-listed;
+      query = λ w. reading-listed (readingOf Reading.Query w) w;
+      accepted = λ w. reading-listed (readingOf Reading.Accepted w) w;
+      lead = λ w. reading-listed (readingOf Reading.Lead w) w;
+      confidence = λ w. reading-listed (readingOf Reading.Confidence w) w;
+      size = λ w. reading-listed (readingOf Reading.Size w) w;
+      list = list-listed;
+    }

@@ -3,16 +3,15 @@ use mathlib.Core.Path.{_≡_, refl, sym, ap, ap₂, subst, _∙_}
 use mathlib.Core.Bool.{Bool, true, false, cond}
 use mathlib.Core.List.{List, [], _∷_}
 use mathlib.Core.Logic.{⊎-elim}
-use Prim.Native.Nat.{ℕ, zero, suc, _+_, _<_, _≤_}
+use Prim.Native.Nat.{ℕ, zero, suc, _+_, _<_}
 use native.Mathlib.Numerals.{add-one}
 use native.Mathlib.Nat.{add-zero, add-comm, eq-or-lt-of-le}
 use native.Mathlib.Omega.{arith}
 use Rattle.loops.specs.Total.{bit, total, count}
 use Rattle.loops.proofs.Total.{total-same, total-plus, total-more, total-zeros}
 use Rattle.rules.specs.declared.setting.Setting.{Setting}
-use Rattle.rules.specs.Answers.{Outcome}
-use Rattle.rules.specs.Layout.{bookings, polls, slotOf, confidenceOf, preferredIn, pollsField, confidenceField, mostBookings}
-use Rattle.rules.specs.Ancestry.{Reaches, ancestry, isMember}
+use Rattle.rules.specs.Layout.{bookings, polls, confidenceOf, pollsField, confidenceField}
+use Rattle.rules.specs.Ancestry.{ancestry, isMember}
 use Rattle.rules.specs.Readings.{sizeOf}
 use Rattle.rules.specs.Open.{opened}
 use Rattle.rules.specs.Book.{booked, lookUp, numberOf}
@@ -43,23 +42,20 @@ use Rattle.promises.specs.Run.{
   Opening,
   after,
 }
-use Rattle.promises.specs.Soundness.{OpenedSound, SoundKept, RunSound}
+use Rattle.promises.specs.Soundness.{RunSound}
 use Rattle.promises.specs.Confidence.{Counted, none, counts, passes, sizes, ConfidenceIsCounted, TotalIsSummed, PreferredIsMost}
-use Rattle.promises.specs.Lasting.{Grown, opens, BookingsLast, AncestryLasts, PollsAreCounted}
+use Rattle.promises.specs.Lasting.{Grown, PollsAreCounted}
 use Rattle.promises.proofs.Taken.{Bookable, Pollable, Led, open-taken, open-kept, book-taken, book-kept, poll-taken, poll-kept}
 use Rattle.promises.proofs.BookedWords.{bookings-booked, polls-booked, confidenceOf-booked-same}
 use Rattle.promises.proofs.BookedRecords.{confidenceOf-booked-old}
 use Rattle.promises.proofs.Booked.{booked-ledger, booked-grown, booked-led}
 use Rattle.promises.proofs.Polled.{polled-ledger, polled-grown, polled-led, bookings-polled, polls-polled, confidence-succeeded, confidence-failed}
 use Rattle.promises.proofs.Grown.{
-  grown-self,
   Within,
   empty,
   within,
   within-more,
   reaches-grown,
-  reaches-forth,
-  ancestry-grown,
   size-grown,
   sizes-grown,
   counted-grown,

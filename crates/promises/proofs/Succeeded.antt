@@ -23,10 +23,9 @@ use Rattle.rules.specs.Layout.{
 use Rattle.rules.specs.Ancestry.{ancestry, isMember}
 use Rattle.rules.specs.Sound.{Ledger, BookingOf}
 use Rattle.rules.specs.Poll.{noted, raised, succeeded}
-use Rattle.promises.proofs.Taken.{Led}
-use Rattle.promises.proofs.Slots.{booking-lt, slot-absent, slot-lt, slot-held}
-use Rattle.promises.proofs.Noted.{Noted, length-noted, confidence-noted, entry-noted-kept, noted-Noted, Noted-kept, Noted-bookings}
-use Rattle.promises.proofs.Raised.{
+use Rattle.rules.proofs.Slots.{slotOf-absent, booking-lt, slotOf-lt, preferredIn-lt}
+use Rattle.rules.proofs.Noted.{length-noted, confidence-noted, entry-noted-kept}
+use Rattle.rules.proofs.Raised.{
   length-raised,
   header-raised-kept,
   field-raised-beside,
@@ -34,6 +33,8 @@ use Rattle.promises.proofs.Raised.{
   confidence-raised,
   confidence-raised-rest,
 }
+use Rattle.promises.proofs.Taken.{Led}
+use Rattle.promises.proofs.Noted.{Noted, noted-Noted, Noted-kept, Noted-bookings}
 use Rattle.promises.proofs.SettledWords.{length-settled, header-settled-kept, field-settled-kept, held-settled-kept}
 use Rattle.promises.proofs.Settled.{Settleable}
 use Rattle.promises.proofs.Settling.{
@@ -77,7 +78,7 @@ module _ (w : List ℕ) (i : ℕ) (ledger : Ledger w) (below : i < bookings w) w
   raised-Settleable = record {
     whole = raised-Noted .long ∙ ledger .whole;
     few = ledger .sound .bookingsMost;
-    fits = λ j h. omega (arith, raised-slot j h, slot-lt w (ledger .sound) j h);
+    fits = λ j h. omega (arith, raised-slot j h, slotOf-lt w (ledger .sound) j h);
   }
 
   -- ---- then settled
@@ -107,7 +108,7 @@ module _ (w : List ℕ) (i : ℕ) (ledger : Ledger w) (below : i < bookings w) w
         ∙ confidence-raised-rest (ancestry w i) (bookings w) (noted w i 2) j l
         ∙ confidence-noted w i 2 j;
     empty = λ s g e h.
-        entry-settled-empty (ancestry w i) (raisedWords w i) (bookings w) raised-Settleable s g h (λ k u q. slot-absent w s k e u (sym (raised-slot k u) ∙ q))
+        entry-settled-empty (ancestry w i) (raisedWords w i) (bookings w) raised-Settleable s g h (λ k u q. slotOf-absent w s k e u (sym (raised-slot k u) ∙ q))
         ∙ raised-entry s g;
     held = λ s. held-settled-kept (ancestry w i) (bookings w) (raisedWords w i) s ∙ raised-entry s heldField;
     preferred = λ s.
@@ -127,20 +128,17 @@ module _ (w : List ℕ) (i : ℕ) (ledger : Ledger w) (below : i < bookings w) w
     raised-preferred : preferredIn (raisedWords w i) (slotOf (raisedWords w i) k) ≡ preferredIn w (slotOf w k)
     raised-preferred = rw (raised-slot k h) (raised-entry (slotOf w k) preferredField)
 
-    preferred-lt : preferredIn w (slotOf w k) < bookings w
-    preferred-lt = slot-held w (ledger .sound) k h .preferred .below
-
     -- who gains nothing is no further ahead than before
     raised-led : isMember (ancestry w i) k ≡ false
         → confidenceOf (raisedWords w i) k ≤ confidenceOf (raisedWords w i) (preferredIn (raisedWords w i) (slotOf (raisedWords w i) k))
     raised-led e =
         let gains : bit (isMember (ancestry w i) k) ≡ 0 = ap bit e in
-        rw raised-preferred (omega (arith, raised-confidence k h, led k h, raised-confidence (preferredIn w (slotOf w k)) preferred-lt))
+        rw raised-preferred (omega (arith, raised-confidence k h, led k h, raised-confidence (preferredIn w (slotOf w k)) (preferredIn-lt w (ledger .sound) k h)))
 
     settled-led : confidenceOf (succeeded w i) k ≤ confidenceOf (succeeded w i) (preferredIn (succeeded w i) (slotOf (succeeded w i) k))
     settled-led =
         led-settled (ancestry w i) (raisedWords w i) (bookings w) raised-Settleable k h
-        (rw raised-preferred preferred-lt) raised-led
+        (rw raised-preferred (preferredIn-lt w (ledger .sound) k h)) raised-led
 
   pub succeeded-led : Led w → Led (succeeded w i)
   succeeded-led led k h = settled-led led k (omega (arith, Noted-bookings succeeded-Noted))

@@ -18,7 +18,7 @@ use Rattle.rules.specs.declared.answer.Found.the-variants.{At, Absent}
 use Rattle.rules.specs.declared.answer.Refusal.{Refusal}
 use Rattle.rules.specs.declared.answer.Answer.{Answer}
 use Rattle.rules.specs.declared.answer.Answer.the-variants.{Taken, Refused}
-use Rattle.rules.specs.Answers.{value, leaves}
+use Rattle.rules.specs.Answers.{number, value, leaves}
 use Rattle.rules.specs.Layout.{size, mostBookings, mostParents, slots, bookings, nameOf, stateOf, slotOf, confidenceOf, preferredIn}
 use Rattle.rules.specs.Setting.{Good}
 use Rattle.rules.specs.IsSound.{isSound}
@@ -27,6 +27,7 @@ use Rattle.rules.specs.Open.{opened}
 use Rattle.rules.specs.Book.{lookUp, numberOf, hasUnknown, hasTwice, booked}
 use Rattle.rules.specs.Poll.{polled}
 use Rattle.rules.specs.Calls.{openAnswer, openCall, tested, bookAnswer, bookCall, askedOf, pollAnswer, pollCall, readingCall}
+use Rattle.rules.proofs.Calls.{number-refused, open-refused, book-refused, poll-refused}
 use Rattle.rules.proofs.Good.{isGood→Good}
 use Rattle.rules.proofs.Sound.{isSound→Sound}
 use Rattle.rules.proofs.Lookup.{isFound-false, absent-name, found-below}
@@ -59,23 +60,21 @@ leaves-taken : (a : Answer) (before after : List ℕ) → isTaken (leaves a befo
 leaves-taken (Taken v) before after e = (v, refl, refl)
 leaves-taken (Refused r) before after e = absurd (true≢false (sym e))
 
-leaves-kept : (a : Answer) (before after : List ℕ) → isTaken (leaves a before after .answer) ≡ false → leaves a before after .words ≡ before
-leaves-kept (Taken v) before after e = absurd (true≢false e)
-leaves-kept (Refused r) before after e = refl
+-- a call that is not taken has the number of a refusal
+untaken : (a : Answer) → isTaken a ≡ false → number a ≢ 0
+untaken (Taken v) e = absurd (true≢false e)
+untaken (Refused r) e = number-refused r
 
 -- a refused call leaves every word
 pub open-kept : (w : List ℕ) (s : Setting) → isTaken (openCall w s .answer) ≡ false → openCall w s .words ≡ w
-unfolding openCall
-open-kept w s = leaves-kept (openAnswer w s) w (opened s)
+open-kept w s e = open-refused w s (untaken (openCall w s .answer) e) .words
 
 pub book-kept : (w : List ℕ) (name slot : ℕ) (parents : List ℕ) → isTaken (bookCall w name slot parents .answer) ≡ false
     → bookCall w name slot parents .words ≡ w
-unfolding bookCall
-book-kept w name slot parents = leaves-kept (bookAnswer isSound w name slot parents) w (booked w name slot parents)
+book-kept w name slot parents e = book-refused w name slot parents (untaken (bookCall w name slot parents .answer) e) .words
 
 pub poll-kept : (w : List ℕ) (name : ℕ) (votes : List ℕ) → isTaken (pollCall w name votes .answer) ≡ false → pollCall w name votes .words ≡ w
-unfolding pollCall
-poll-kept w name votes = leaves-kept (pollAnswer isSound w name votes) w (polled w (numberOf (lookUp w name)) votes)
+poll-kept w name votes e = poll-refused w name votes (untaken (pollCall w name votes .answer) e) .words
 
 -- ---- the tests that a taken call has passed
 

@@ -1,18 +1,18 @@
 -- Confidence is counted, not invented; the total is the sum of ancestries; the preferred one leads its slot.
 use mathlib.Core.Path.{_≡_}
 use mathlib.Core.List.{List, [], _∷_}
-use Prim.Native.Nat.{ℕ, zero, suc, _+_, _<_, _≤_}
+use Prim.Native.Nat.{ℕ, suc, _+_, _<_, _≤_}
 use Rattle.loops.specs.Total.{total}
 use Rattle.rules.specs.Layout.{bookings, slotOf, confidenceOf, preferredIn}
 use Rattle.rules.specs.Ancestry.{Reaches}
 use Rattle.rules.specs.Readings.{sizeOf}
 use Rattle.promises.specs.Run.{Call, Opening, after}
 
--- c of the polled bookings have j in their ancestry
+-- c of the bookings whose polls succeeded have j in their ancestry
 pub data Counted (w : List ℕ) (j : ℕ) : List ℕ → ℕ → Type 0 where
   none : Counted w j [] 0
-  counts : {i : ℕ} {polled : List ℕ} {c : ℕ} → Reaches w i j → Counted w j polled c → Counted w j (i ∷ polled) (suc c)
-  passes : {i : ℕ} {polled : List ℕ} {c : ℕ} → (Reaches w i j → ⊥) → Counted w j polled c → Counted w j (i ∷ polled) c
+  counts : {i : ℕ} {successes : List ℕ} {c : ℕ} → Reaches w i j → Counted w j successes c → Counted w j (i ∷ successes) (suc c)
+  passes : {i : ℕ} {successes : List ℕ} {c : ℕ} → (Reaches w i j → ⊥) → Counted w j successes c → Counted w j (i ∷ successes) c
 
 -- each booking's confidence is the number of successful polls whose booking has it in its ancestry
 unfoldable pub ConfidenceIsCounted : Type 0
@@ -20,10 +20,10 @@ ConfidenceIsCounted =
     (o : Opening) (calls : List Call) (j : ℕ) → j < bookings (after o calls .words)
     → Counted (after o calls .words) j (after o calls .history .successes) (confidenceOf (after o calls .words) j)
 
--- the sizes of the ancestries of the polled bookings, together
+-- the sizes of the ancestries of the bookings whose polls succeeded, together
 unfoldable pub sizes : List ℕ → List ℕ → ℕ
 sizes w [] = 0
-sizes w (i ∷ polled) = sizeOf w i + sizes w polled
+sizes w (i ∷ successes) = sizeOf w i + sizes w successes
 
 -- all confidences together are the sum over the successful polls of the ancestry's size
 unfoldable pub TotalIsSummed : Type 0

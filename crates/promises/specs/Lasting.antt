@@ -9,7 +9,7 @@ use Rattle.rules.specs.Ancestry.{Reaches, ancestry}
 use Rattle.rules.specs.Sound.{Ledger}
 use Rattle.promises.specs.Run.{Call, Open, Book, Poll, Query, Accepted, Lead, Confidence, Size, outcomeOf, Opening, after}
 
--- every call but an opening
+-- whether the call is an opening
 abbrev pub opens : Call → Bool
 opens (Open s) = true
 opens (Book name slot parents) = false

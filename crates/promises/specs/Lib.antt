@@ -7,3 +7,4 @@ pub mod Confidence
 pub mod Lasting
 pub mod Ranges
 pub mod OfCode
+pub mod Told

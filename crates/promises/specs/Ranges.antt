@@ -1,10 +1,8 @@
--- Every number answered lies in the range that document 01 gives.
+-- Every number answered lies in a known range: that of document 01 for lead, and what follows from its bounds for the others.
 use mathlib.Core.Path.{_≡_}
 use mathlib.Core.List.{List}
-use mathlib.Core.Logic.{_⊎_}
 use Prim.Native.Nat.{ℕ, _≤_}
 use lib.IntN.{ℤ, pos, natAbs}
-use Rattle.rules.specs.declared.answer.Answer.{Answer}
 use Rattle.rules.specs.Answers.{number, value}
 use Rattle.rules.specs.Calls.{queryCall, acceptedCall, leadCall, confidenceCall, sizeCall}
 use Rattle.promises.specs.Run.{Call, outcomeOf}

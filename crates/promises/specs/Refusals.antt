@@ -3,14 +3,15 @@ use mathlib.Core.Path.{_≡_}
 use mathlib.Core.List.{List}
 use mathlib.Core.Logic.{_≢_, _⊎_}
 use Prim.Native.Nat.{ℕ, _<_, _≤_}
-use lib.IntN.{ℤ, pos}
+use lib.IntN.{pos}
 use lib.ListN.{length, getD}
 use Rattle.rules.specs.declared.setting.Setting.{Setting}
 use Rattle.rules.specs.Answers.{number, value}
 use Rattle.rules.specs.Layout.{size, slots, mostParents, mostBookings, bookings, settingIn, nameOf, stateOf}
 use Rattle.rules.specs.Setting.{Good}
 use Rattle.rules.specs.Sound.{Sound}
-use Rattle.rules.specs.Calls.{openCall, bookCall, pollCall, readingCall}
+use Rattle.rules.specs.Calls.{openCall, bookCall, pollCall, queryCall, acceptedCall, leadCall, confidenceCall, sizeCall}
+use Rattle.rules.specs.Listing.{listCall}
 use Rattle.promises.specs.Run.{Call, outcomeOf}
 
 -- ---- a refused call changes nothing
@@ -101,8 +102,20 @@ ReadingListed w name =
     (refuses 10 (Booked w name → ⊥)
     taken))
 
+-- list may be refused with 1 or 2 only
+abbrev pub ListListed : List ℕ → ℕ → Type 0
+ListListed w =
+    refuses 1 (length w ≢ size)
+    (refuses 2 (Sound w → ⊥)
+    taken)
+
 pub record RefusedListed : Type 0 where
   pub opening : (w : List ℕ) (s : Setting) → OpenListed w s (number (openCall w s .answer))
   pub booking : (w : List ℕ) (name slot : ℕ) (parents : List ℕ) → BookListed w name slot parents (number (bookCall w name slot parents .answer))
   pub polling : (w : List ℕ) (name : ℕ) (votes : List ℕ) → PollListed w name votes (number (pollCall w name votes .answer))
-  pub reading : (f : ℕ → ℤ) (w : List ℕ) (name : ℕ) → ReadingListed w name (number (readingCall f w name))
+  pub query : (w : List ℕ) (name : ℕ) → ReadingListed w name (number (queryCall w name))
+  pub accepted : (w : List ℕ) (name : ℕ) → ReadingListed w name (number (acceptedCall w name))
+  pub lead : (w : List ℕ) (name : ℕ) → ReadingListed w name (number (leadCall w name))
+  pub confidence : (w : List ℕ) (name : ℕ) → ReadingListed w name (number (confidenceCall w name))
+  pub size : (w : List ℕ) (name : ℕ) → ReadingListed w name (number (sizeCall w name))
+  pub list : (w : List ℕ) → ListListed w (number (listCall w))

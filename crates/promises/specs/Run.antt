@@ -1,7 +1,7 @@
 -- Runs: any calls, in any order and with any arguments, after a taken opening.
 use Prim.Native.Nat.{ℕ, _+_}
 use mathlib.Core.Path.{_≡_}
-use mathlib.Core.Bool.{Bool, true, false, _&&_, cond}
+use mathlib.Core.Bool.{Bool, true, false, cond}
 use mathlib.Core.List.{List, [], _∷_}
 use Rattle.rules.specs.declared.setting.Setting.{Setting}
 use Rattle.rules.specs.declared.answer.Answer.{Answer}
@@ -37,7 +37,8 @@ abbrev pub isTaken : Answer → Bool
 isTaken (Taken v) = true
 isTaken (Refused r) = false
 
--- ---- the history: the bookings of the successful polls, newest first, and how many polls were taken
+-- ---- the history: the bookings of the successful polls, newest first, and how many polls were taken. Which polls succeed is the
+-- law's own test of the votes, `isSuccess`
 
 pub record History : Type 0 where
   pub successes : List ℕ

@@ -1,22 +1,20 @@
 -- The difference of two numbers that are read as signed: it fits, and it is their difference as integers.
 use mathlib.Core.Path.{_≡_, _∙_}
-use mathlib.Core.Bool.{Bool, true, false, cond}
-use Prim.Native.Nat.{ℕ, zero, suc, _-_, _^_, _<_}
+use Prim.Native.Nat.{ℕ, _-_, _^_, _≤_, _<_}
 use native.Mathlib.Omega.{arith}
-use lib.Dec.{ltb}
-use lib.IntN.{pos, negsuc, _-ℤ_}
+use lib.IntN.{ℤ, pos, negsuc, _-ℤ_, natAbs}
 use lib.Signed.{mag}
 use mir.Syntax.{Width}
 use mir.Val.{SFits, hbits, toZ, ofZ}
 use mir.ValLaws.{toZ-pos, toZ-ofZ}
+use Rattle.rules.proofs.Readings.{difference-le}
+
+mag-natAbs-le : (z : ℤ) → mag z ≤ natAbs z
+mag-natAbs-le (pos n) = omega arith
+mag-natAbs-le (negsuc n) = omega arith
 
 mag-difference : (a b m : ℕ) → a < m → b < m → mag (pos a -ℤ pos b) < m
-mag-difference a zero m la lb = omega arith
-mag-difference a (suc b) m la lb = go (ltb a (suc b))
-  where
-    go : (t : Bool) → mag (cond t (negsuc (suc b - suc a)) (pos (a - suc b))) < m
-    go true = omega arith
-    go false = omega arith
+mag-difference a b m la lb = omega (arith, mag-natAbs-le (pos a -ℤ pos b), difference-le a b (m - 1) (omega arith) (omega arith))
 
 module _ (w : Width) (a b : ℕ) (la : a < 2 ^ hbits w) (lb : b < 2 ^ hbits w) where
   pub difference-fits : SFits w (toZ w a -ℤ toZ w b)

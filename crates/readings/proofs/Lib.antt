@@ -1,4 +1,2 @@
 -- Laws that the proofs of this crate cite. They assume nothing.
-pub mod Finding
 pub mod Difference
-pub mod Bounds

@@ -7,7 +7,7 @@ ghost use Rattle.rules.specs.Layout.{size, mostBookings, bookings};
 ghost use Rattle.rules.specs.Readings.{isRival, rivalConfidence, rivalsMost, leadOf};
 
 // Whether j is another booking of i's slot.
-pub fn is_rival(w: &[u16], i: usize, j: usize) -> bool
+fn is_rival(w: &[u16], i: usize, j: usize) -> bool
     requires { ⌜ (length (now w) ≡ size) × (i < mostBookings) × (j < mostBookings) ⌝ }
     ensures { λ r. ⌜ r ≡ isRival (now (w .entry)) i j ⌝ }
 {
@@ -33,7 +33,7 @@ fn greater(a: u16, b: u16) -> u16
 }
 
 // The greatest confidence among the slot's other bookings, or 0 if there are none.
-pub fn rivals_most(w: &[u16], i: usize) -> u16
+fn rivals_most(w: &[u16], i: usize) -> u16
     requires { ⌜ (length (now w) ≡ size) × (bookings (now w) ≤ mostBookings) × (i < mostBookings) ⌝ }
     ensures { λ r. ⌜ r ≡ rivalsMost (now (w .entry)) i ⌝ }
 {

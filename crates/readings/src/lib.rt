@@ -1,7 +1,5 @@
-// What the ledger reports of a booking. Each function answers what the law's definition of the same name says, and changes nothing.
-pub mod accepted;
+// What the ledger reports of one booking from its own words and those of its ancestry and rivals. Each function answers what the
+// law's definition of the same name says, and changes nothing.
 pub mod booking;
 pub mod lead;
-pub mod query;
 pub mod size;
-pub mod slot;

@@ -9,7 +9,7 @@ ghost use Rattle.rules.specs.Ancestry.{isMember};
 ghost use Rattle.rules.specs.Readings.{sizeOf};
 
 // 1 for yes, 0 for no.
-pub fn bit_of(b: bool) -> usize
+fn bit_of(b: bool) -> usize
     ensures { λ r. ⌜ r ≡ bit b ⌝ }
 {
     if b { 1 } else { 0 }

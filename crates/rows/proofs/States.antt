@@ -7,12 +7,12 @@ use lib.Dec.{eqb}
 use borrow.Author.Tests.{eqb-true, eqb-false, ne-eqb}
 use Rattle.rules.specs.Votes.{stateSays}
 use Rattle.rules.specs.declared.vote.State.{State}
-use Rattle.rules.specs.declared.vote.State.the-variants.{Waiting, Failed, Chit, Unknown}
+use Rattle.rules.specs.declared.vote.State.the-variants.{Waiting, NoChit, Chit, Unknown}
 
 -- the words that read as the state
 abbrev pub Reads : State → ℕ → Type 0
 Reads Waiting s = s ≡ 0
-Reads Failed s = s ≡ 1
+Reads NoChit s = s ≡ 1
 Reads Chit s = s ≡ 2
 Reads Unknown s = 2 < s
 
@@ -24,11 +24,11 @@ reads s = first (eqb s 0) refl
     third true e n0 n1 = eqb-true s 2 e
     third false e n0 n1 = omega (arith, eqb-false s 2 e)
 
-    second : (t : Bool) → eqb s 1 ≡ t → (s ≡ 0 → ⊥) → Reads (cond t Failed (cond (eqb s 2) Chit Unknown)) s
+    second : (t : Bool) → eqb s 1 ≡ t → (s ≡ 0 → ⊥) → Reads (cond t NoChit (cond (eqb s 2) Chit Unknown)) s
     second true e n0 = eqb-true s 1 e
     second false e n0 = third (eqb s 2) refl n0 (eqb-false s 1 e)
 
-    first : (t : Bool) → eqb s 0 ≡ t → Reads (cond t Waiting (cond (eqb s 1) Failed (cond (eqb s 2) Chit Unknown))) s
+    first : (t : Bool) → eqb s 0 ≡ t → Reads (cond t Waiting (cond (eqb s 1) NoChit (cond (eqb s 2) Chit Unknown))) s
     first true e = eqb-true s 0 e
     first false e = second (eqb s 1) refl (eqb-false s 0 e)
 

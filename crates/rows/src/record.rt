@@ -7,15 +7,23 @@ ghost use Prim.Native.Nat.{_<_};
 ghost use lib.ListN.{length};
 ghost use lib.Dec.{eqb};
 ghost use Rattle.loops.specs.Total.{bit};
-ghost use Rattle.rules.specs.Layout.{size, mostBookings, mostParents, parentOf, stateOf};
+ghost use Rattle.rules.specs.Layout.{size, mostBookings, recordWords, mostParents, field, parentOf, stateOf};
 ghost use Rattle.rules.specs.IsSound.{genesisGood, parentsGood, stateGood, recordZero};
+
+// Word f of record i, as a wider number.
+pub fn word(w: &[u16], i: usize, f: usize) -> usize
+    requires { ⌜ (length (now w) ≡ size) × (i < mostBookings) × (f < recordWords) ⌝ }
+    ensures { λ r. ⌜ r ≡ field (now (w .entry)) i f ⌝ }
+{
+    words::wide(words::get(w, i, f))
+}
 
 // The parent of record i at place a.
 fn parent(w: &[u16], i: usize, a: usize) -> usize
     requires { ⌜ (length (now w) ≡ size) × (i < mostBookings) × (a < mostParents) ⌝ }
     ensures { λ r. ⌜ r ≡ parentOf (now (w .entry)) i a ⌝ }
 {
-    words::wide(words::get(w, i, layout::PARENTS + a))
+    word(w, i, layout::PARENTS + a)
 }
 
 // What stands at a place with no parent.
@@ -63,7 +71,7 @@ pub fn state_good(w: &[u16], i: usize) -> bool
     let p = words::head(w, layout::POLLS);
     match vote::read_state(words::get(w, i, layout::STATE)) {
         State::Waiting => (o == 0) & (o <= p),
-        State::Failed => !(o == 0) & (o <= p),
+        State::NoChit => !(o == 0) & (o <= p),
         State::Chit => !(o == 0) & (o <= p),
         State::Unknown => false,
     }
@@ -76,7 +84,7 @@ pub fn chit(w: &[u16], i: usize) -> usize
 {
     match vote::read_state(words::get(w, i, layout::STATE)) {
         State::Waiting => 0,
-        State::Failed => 0,
+        State::NoChit => 0,
         State::Chit => 1,
         State::Unknown => 0,
     }

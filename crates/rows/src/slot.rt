@@ -1,11 +1,20 @@
 // A slot entry.
+use crate::record;
 use rules::layout;
 ghost use mathlib.Core.Path.{_≡_};
 ghost use Prim.Native.Nat.{_<_};
 ghost use lib.ListN.{length};
-ghost use Rattle.rules.specs.Layout.{size, slots};
+ghost use Rattle.rules.specs.Layout.{size, slots, slotWords, entry};
 ghost use Rattle.rules.specs.IsSound.{chits, bookingsOf, isBookingOf, entryEmpty, entryHeld, slotGood};
 ghost use Rattle.rows.specs.Counted.{Counted};
+
+// Word f of slot entry s, as a wider number.
+fn word(w: &[u16], s: usize, f: usize) -> usize
+    requires { ⌜ (length (now w) ≡ size) × (s < slots) × (f < slotWords) ⌝ }
+    ensures { λ r. ⌜ r ≡ entry (now (w .entry)) s f ⌝ }
+{
+    words::wide(words::get_entry(w, s, f))
+}
 
 // 65535, 65535, 0, 0.
 fn entry_empty(w: &[u16], s: usize) -> bool
@@ -24,36 +33,31 @@ fn is_booking_of(w: &[u16], n: usize, s: usize, i: usize) -> bool
     ensures { λ r. ⌜ r ≡ isBookingOf (now (w .entry)) s i ⌝ }
 {
     if i < n {
-        return words::wide(words::get(w, i, layout::SLOT)) == s;
+        return record::word(w, i, layout::SLOT) == s;
     }
     false
 }
 
-// The number of bookings is the true one, preferred and last are bookings of the slot, the counter is within the chits.
-fn entry_held(w: &[u16], n: usize, most: usize, s: usize, held: usize) -> bool
+// The number of bookings is the true one, preferred and last are bookings of the slot, the counter is within the limit.
+fn entry_held(w: &[u16], n: usize, limit: usize, s: usize, held: usize) -> bool
     requires { ⌜ Counted (now w) n × (s < slots) ⌝ }
-    requires { ⌜ (most ≡ chits (now w)) × (held ≡ bookingsOf (now w) s) ⌝ }
+    requires { ⌜ (limit ≡ chits (now w)) × (held ≡ bookingsOf (now w) s) ⌝ }
     ensures { λ r. ⌜ r ≡ entryHeld (now (w .entry)) s ⌝ }
 {
-    (words::wide(words::get_entry(w, s, layout::HELD)) == held)
-        & is_booking_of(
-            w,
-            n,
-            s,
-            words::wide(words::get_entry(w, s, layout::PREFERRED)),
-        )
-        & is_booking_of(w, n, s, words::wide(words::get_entry(w, s, layout::LAST)))
-        & (words::wide(words::get_entry(w, s, layout::COUNTER)) <= most)
+    (word(w, s, layout::HELD) == held)
+        & is_booking_of(w, n, s, word(w, s, layout::PREFERRED))
+        & is_booking_of(w, n, s, word(w, s, layout::LAST))
+        & (word(w, s, layout::COUNTER) <= limit)
 }
 
-// Slot entry s, of which held records below n are bookings and most records are in state 2.
-pub fn slot_good(w: &[u16], n: usize, most: usize, s: usize, held: usize) -> bool
+// Slot entry s, where held is its true number of bookings and limit the number of records in state 2.
+pub fn slot_good(w: &[u16], n: usize, limit: usize, s: usize, held: usize) -> bool
     requires { ⌜ Counted (now w) n × (s < slots) ⌝ }
-    requires { ⌜ (most ≡ chits (now w)) × (held ≡ bookingsOf (now w) s) ⌝ }
+    requires { ⌜ (limit ≡ chits (now w)) × (held ≡ bookingsOf (now w) s) ⌝ }
     ensures { λ r. ⌜ r ≡ slotGood (now (w .entry)) s ⌝ }
 {
     if held == 0 {
         return entry_empty(w, s);
     }
-    entry_held(w, n, most, s, held)
+    entry_held(w, n, limit, s, held)
 }

@@ -1,16 +1,15 @@
 -- `acceptedOf` satisfies document 01's sentence at every booking of a sound workspace.
 -- Turn i of the sweep decides booking i, no other turn touches its mark, and its parents are lower: they are decided before it.
 use mathlib.Core.Path.{_≡_, refl, sym, ap, subst, _∙_}
-use mathlib.Core.Bool.{Bool, true, false, _&&_, _||_, cond, true≢false, and-eq-true-iff}
+use mathlib.Core.Bool.{Bool, true, false, _||_, cond, and-eq-true-iff}
 use mathlib.Core.List.{List}
-use mathlib.Core.Logic.{_≢_, _⊎_, inl, inr, ⊎-elim, ⊎-map, _↔_, Iff·trans}
+use mathlib.Core.Logic.{_≢_, _⊎_, ⊎-map, _↔_, Iff·trans}
 use Prim.Native.Nat.{ℕ, _<_, _≤_}
-use native.Mathlib.Decide.{ℕ-discrete}
 use native.Mathlib.Omega.{arith}
 use lib.Dec.{eqb}
 use lib.ListN.{length, getD, length-set}
 use lib.Seq.{getD-set-same, getD-set-other}
-use borrow.Author.Tests.{eqb-true, eq-eqb, ne-eqb, ltb-true, lt-ltb}
+use borrow.Author.Tests.{eqb-true, eqb-false, eq-eqb, ne-eqb, ltb-true, lt-ltb}
 use Rattle.loops.specs.Turns.{upTo}
 use Rattle.loops.proofs.Turns.{upTo-kept, upTo-since}
 use Rattle.loops.proofs.Search.{all→, →all}
@@ -18,30 +17,9 @@ use Rattle.rules.specs.Layout.{mostBookings, mostParents, none, bookings
 use Rattle.rules.specs.Ancestry.{Parent, isMember, mark, unmarked}
 use Rattle.rules.specs.Readings.{parentsAccepted, firstArm, secondArm, acceptOne, acceptedBelow, acceptedOf}
 use Rattle.rules.specs.Sound.{Sound}
+use Rattle.rules.specs.Told.{FirstArm, SecondArm}
+use Rattle.rules.proofs.Bools.{and-both, or-right, or-else, or-either}
 use Rattle.rules.proofs.Ancestry.{length-unmarked, unmarked-zero, Parent-lt}
-
--- ---- the sentence
-
--- all parents are accepted, the slot has one booking and its counter is above β1
-pub record FirstArm (w : List ℕ) (i : ℕ) : Type 0 where
-  pub parents : (p : ℕ) → Parent w i p → acceptedOf w p ≡ true
-  pub alone : heldIn w (slotOf w i) ≡ 1
-  pub counter : settingIn w .beta1 < counterIn w (slotOf w i)
-
--- the booking is both preferred and last in its slot and the counter is above β2
-pub record SecondArm (w : List ℕ) (i : ℕ) : Type 0 where
-  pub preferred : preferredIn w (slotOf w i) ≡ i
-  pub last : lastIn w (slotOf w i) ≡ i
-  pub counter : settingIn w .beta2 < counterIn w (slotOf w i)
-
--- ---- tests
-
-either : (a b : Bool) → ((a || b) ≡ true) ↔ ((a ≡ true) ⊎ (b ≡ true))
-either true b = (λ e. inl refl, λ u. refl)
-either false b = (inr, ⊎-elim (λ e. absurd (true≢false (sym e))) (λ e. e))
-
-both : (a b : Bool) → a ≡ true → b ≡ true → (a && b) ≡ true
-both a b p q = rw (p, q)
 
 -- ---- what one turn does to the marks
 
@@ -105,24 +83,17 @@ module _ (w : List ℕ) (sound : Sound w) (i : ℕ) (below : i < bookings w) whe
     where
       to : parentsAccepted w (acceptedBelow w i) i ≡ true → (p : ℕ) → Parent w i p → acceptedOf w p ≡ true
       to e p a =
-          ⊎-elim
-          (λ q. absurd (a .used (eqb-true p none q)))
-          (λ q. sym (acceptedBelow-is w i p (Parent-lt w sound i p below a)) ∙ q)
-          (either (eqb p none) (isMember (acceptedBelow w i) p) .0
-          (subst (λ x. passes (acceptedBelow w i) x ≡ true) (a .stands)
-          (all→ (λ b. passes (acceptedBelow w i) (parentOf w i b)) mostParents e (a .place) (a .within))))
+          let passed = all→ (λ b. passes (acceptedBelow w i) (parentOf w i b)) mostParents e (a .place) (a .within) in
+          sym (acceptedBelow-is w i p (Parent-lt w sound i p below a))
+          ∙ or-right _ _ (subst (λ x. passes (acceptedBelow w i) x ≡ true) (a .stands) passed) (ne-eqb p none (a .used))
 
       from : ((p : ℕ) → Parent w i p → acceptedOf w p ≡ true) → parentsAccepted w (acceptedBelow w i) i ≡ true
       from h =
           →all (λ b. passes (acceptedBelow w i) (parentOf w i b)) mostParents
           (λ b l.
-          either (eqb (parentOf w i b) none) (isMember (acceptedBelow w i) (parentOf w i b)) .1
-          (elim (ℕ-discrete (parentOf w i b) none) [
-            | yes e ↦ inl (eq-eqb _ _ e)
-            | no d ↦
-                let a : Parent w i (parentOf w i b) = record { place = b; within = l; stands = refl; used = d } in
-                inr (acceptedBelow-is w i (parentOf w i b) (Parent-lt w sound i (parentOf w i b) below a) ∙ h (parentOf w i b) a)
-          ]))
+          or-else _ _ (λ t.
+          let a : Parent w i (parentOf w i b) = record { place = b; within = l; stands = refl; used = eqb-false _ _ t } in
+          acceptedBelow-is w i (parentOf w i b) (Parent-lt w sound i (parentOf w i b) below a) ∙ h (parentOf w i b) a))
 
   first-are : (firstArm w (acceptedBelow w i) i ≡ true) ↔ FirstArm w i
   first-are = (to, from)
@@ -134,7 +105,7 @@ module _ (w : List ℕ) (sound : Sound w) (i : ℕ) (below : i < bookings w) whe
           record { parents = parents-are .0 (v .0); alone = eqb-true _ _ (v .1); counter = ltb-true _ _ (u .1) }
 
       from : FirstArm w i → firstArm w (acceptedBelow w i) i ≡ true
-      from f = both _ _ (both _ _ (parents-are .1 (f .parents)) (eq-eqb _ _ (f .alone))) (lt-ltb _ _ (f .counter))
+      from f = and-both _ _ (and-both _ _ (parents-are .1 (f .parents)) (eq-eqb _ _ (f .alone))) (lt-ltb _ _ (f .counter))
 
   second-are : (secondArm w i ≡ true) ↔ SecondArm w i
   second-are = (to, from)
@@ -146,10 +117,10 @@ module _ (w : List ℕ) (sound : Sound w) (i : ℕ) (below : i < bookings w) whe
           record { preferred = eqb-true _ _ (v .0); last = eqb-true _ _ (v .1); counter = ltb-true _ _ (u .1) }
 
       from : SecondArm w i → secondArm w i ≡ true
-      from f = both _ _ (both _ _ (eq-eqb _ _ (f .preferred)) (eq-eqb _ _ (f .last))) (lt-ltb _ _ (f .counter))
+      from f = and-both _ _ (and-both _ _ (eq-eqb _ _ (f .preferred)) (eq-eqb _ _ (f .last))) (lt-ltb _ _ (f .counter))
 
   -- for others than the genesis, accepted exactly by one of the arms
   pub accepted-is : 0 < i → (acceptedOf w i ≡ true) ↔ (FirstArm w i ⊎ SecondArm w i)
   accepted-is h =
       let turn : acceptedOf w i ≡ (firstArm w (acceptedBelow w i) i || secondArm w i) = accepted-turn w i (omega (arith, sound .bookingsMost)) ∙ rw (ne-eqb i 0 (λ e. omega arith)) in
-      Iff·trans (λ e. sym turn ∙ e, λ e. turn ∙ e) (Iff·trans (either _ _) (⊎-map (first-are .0) (second-are .0), ⊎-map (first-are .1) (second-are .1)))
+      Iff·trans (λ e. sym turn ∙ e, λ e. turn ∙ e) (Iff·trans (or-either _ _) (⊎-map (first-are .0) (second-are .0), ⊎-map (first-are .1) (second-are .1)))

@@ -2,6 +2,7 @@
 use mathlib.Core.Path.{_≡_, refl, sym}
 use mathlib.Core.Bool.{Bool, true, false, not, _&&_, _||_, cond, true≢false}
 use mathlib.Core.List.{List, [], _∷_}
+use mathlib.Core.Logic.{_⊎_, inl, inr, ⊎-elim, _↔_}
 use Prim.Native.Nat.{ℕ, zero, suc}
 use lib.ListN.{getD}
 
@@ -57,6 +58,11 @@ row-by l = rowFrom-by true l refl
 pub or-right : (a b : Bool) → (a || b) ≡ true → a ≡ false → b ≡ true
 or-right true b e f = absurd (true≢false f)
 or-right false b e f = e
+
+-- either passes exactly if one does
+pub or-either : (a b : Bool) → ((a || b) ≡ true) ↔ ((a ≡ true) ⊎ (b ≡ true))
+or-either true b = (λ e. inl refl, λ u. refl)
+or-either false b = (inr, ⊎-elim (λ e. absurd (true≢false (sym e))) (λ e. e))
 
 -- either passes where the second does whenever the first fails
 pub or-else : (a b : Bool) → (a ≡ false → b ≡ true) → (a || b) ≡ true

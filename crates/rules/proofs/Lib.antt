@@ -6,10 +6,13 @@ pub mod Lookup
 pub mod Bookings
 pub mod Entries
 pub mod Sound
+pub mod Slots
 pub mod Opened
 pub mod Ancestry
 pub mod Accepted
 pub mod Readings
+pub mod Noted
+pub mod Raised
 pub mod Calls
 pub mod Tested
 pub mod Walk

@@ -1,14 +1,14 @@
 -- Bounds of the readings on a sound workspace, and what query says of the ancestry that people read.
 -- The genesis is polled without a chit, so at most n − 1 bookings have one, and no confidence is above that.
-use mathlib.Core.Path.{_≡_, refl, sym}
-use mathlib.Core.Bool.{Bool, true, false, not, _||_, cond, true≢false, and-eq-true-iff}
+use mathlib.Core.Path.{_≡_, refl, sym, ap}
+use mathlib.Core.Bool.{Bool, true, false, not, _||_, cond, and-eq-true-iff}
 use mathlib.Core.List.{List}
 use mathlib.Core.Logic.{_≢_, _⊎_, inl, inr, ⊎-elim, _↔_}
 use Prim.Native.Nat.{ℕ, zero, suc, _-_, _<_, _≤_}
 use native.Mathlib.Omega.{arith}
 use lib.Dec.{eqb, ltb}
 use lib.IntN.{pos, negsuc, _-ℤ_, natAbs}
-use borrow.Author.Tests.{eqb-true, eqb-false, eq-eqb, ne-eqb, ltb-true, not-true}
+use borrow.Author.Tests.{eqb-true, eqb-false, eq-eqb, ne-eqb, ltb-true, not-true, not-false}
 use Rattle.loops.specs.Total.{bit, greatest}
 use Rattle.loops.proofs.Total.{bit-le, count-le, count-some, count-lt, greatest-le, greatest-above, greatest-held}
 use Rattle.loops.proofs.Search.{all→, →all}
@@ -17,6 +17,8 @@ use Rattle.rules.specs.IsSound.{chits}
 use Rattle.rules.specs.Ancestry.{Reaches, isMember, ancestry}
 use Rattle.rules.specs.Sound.{Sound, BookingOf}
 use Rattle.rules.specs.Readings.{isPreferred, queryOf, acceptedOf, isRival, rivalConfidence, rivalsMost, leadOf, sizeOf}
+use Rattle.rules.specs.Told.{Rival, MostOfRivals}
+use Rattle.rules.proofs.Bools.{or-right, or-else}
 use Rattle.rules.proofs.Ancestry.{Reaches-le, marks→Reaches, Reaches→marks, member-self}
 
 -- 511: what a confidence, a counter and a lead can reach
@@ -25,7 +27,7 @@ mostConfidence = mostBookings - 1
 
 -- ---- a difference of two numbers up to m is from −m to m
 
-difference-le : (a b m : ℕ) → a ≤ m → b ≤ m → natAbs (pos a -ℤ pos b) ≤ m
+pub difference-le : (a b m : ℕ) → a ≤ m → b ≤ m → natAbs (pos a -ℤ pos b) ≤ m
 difference-le a zero m ha hb = omega arith
 difference-le a (suc b) m ha hb = go (ltb a (suc b)) refl
   where
@@ -33,22 +35,7 @@ difference-le a (suc b) m ha hb = go (ltb a (suc b)) refl
     go true e = omega (arith, ltb-true a (suc b) e)
     go false e = omega arith
 
--- a test that is asked of members only
-if-so : (a b : Bool) → ((not a || b) ≡ true) ↔ (a ≡ true → b ≡ true)
-if-so true b = (λ e t. e, λ f. f refl)
-if-so false b = (λ e t. absurd (true≢false (sym t)), λ f. refl)
-
 -- ---- lead: what is taken away, on any words
-
--- j is another booking of i's slot
-pub record Rival (w : List ℕ) (i j : ℕ) : Type 0 where
-  pub inSlot : BookingOf w (slotOf w i) j
-  pub another : j ≢ i
-
--- m is the greatest confidence among the slot's other bookings, or 0 if there are none
-pub record MostOfRivals (w : List ℕ) (i m : ℕ) : Type 0 where
-  pub above : (j : ℕ) → Rival w i j → confidenceOf w j ≤ m
-  pub held : (m ≡ 0) ⊎ ((j : ℕ) × Rival w i j × (confidenceOf w j ≡ m))
 
 pub rivalsMost-is : (w : List ℕ) (i : ℕ) → MostOfRivals w i (rivalsMost w i)
 unfolding rivalsMost
@@ -115,14 +102,13 @@ module _ (w : List ℕ) (sound : Sound w) where
       to : queryOf w i ≡ true → (j : ℕ) → Reaches w i j → preferredIn w (slotOf w j) ≡ j
       to e j r =
           eqb-true _ _
-          (if-so (isMember (ancestry w i) j) (isPreferred w j) .0
-          (all→ (λ k. not (isMember (ancestry w i) k) || isPreferred w k) (bookings w) e j (omega (arith, Reaches-le w sound h r)))
-          (Reaches→marks w sound i h j r))
+          (or-right _ _ (all→ (λ k. not (isMember (ancestry w i) k) || isPreferred w k) (bookings w) e j (omega (arith, Reaches-le w sound h r)))
+          (ap not (Reaches→marks w sound i h j r)))
 
       from : ((j : ℕ) → Reaches w i j → preferredIn w (slotOf w j) ≡ j) → queryOf w i ≡ true
       from f =
           →all (λ k. not (isMember (ancestry w i) k) || isPreferred w k) (bookings w)
-          (λ j l. if-so (isMember (ancestry w i) j) (isPreferred w j) .1 (λ t. eq-eqb _ _ (f j (marks→Reaches w i j t))))
+          (λ j l. or-else _ _ (λ t. eq-eqb _ _ (f j (marks→Reaches w i j (not-false _ t)))))
 
 -- ---- query and accepted: 0 or 1, on any words
 

@@ -1,12 +1,11 @@
 -- Refusals 1 and 2 are past exactly on a ledger: there every call but open is what follows them.
-use mathlib.Core.Path.{_≡_, refl}
-use mathlib.Core.Bool.{Bool, true, false}
+use mathlib.Core.Path.{_≡_}
+use mathlib.Core.Bool.{false}
 use mathlib.Core.List.{List}
 use mathlib.Core.Logic.{_≢_}
 use Prim.Native.Nat.{ℕ}
 use lib.IntN.{ℤ}
 use lib.ListN.{length}
-use lib.Dec.{eqb}
 use borrow.Author.Tests.{eq-eqb, ne-eqb}
 use Rattle.rules.specs.declared.answer.Found.the-variants.{At, Absent}
 use Rattle.rules.specs.declared.answer.Refusal.the-variants.{WrongLength, NotSound, UnknownName}

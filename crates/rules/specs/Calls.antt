@@ -3,11 +3,12 @@
 use Prim.Native.Nat.{ℕ}
 use mathlib.Core.Bool.{Bool, not, _||_, cond}
 use mathlib.Core.List.{List}
-use lib.IntN.{ℤ, pos}
+use lib.IntN.{ℤ}
 use lib.ListN.{length}
 use lib.Dec.{eqb, leb, ltb}
-use Rattle.loops.specs.Total.{bit}
 use Rattle.rules.specs.declared.setting.Setting.{Setting}
+use Rattle.rules.specs.declared.answer.Reading.{Reading}
+use Rattle.rules.specs.declared.answer.Reading.the-variants.{Query, Accepted, Lead, Confidence, Size}
 use Rattle.rules.specs.declared.answer.Found.{Found}
 use Rattle.rules.specs.declared.answer.Found.the-variants.{At, Absent}
 use Rattle.rules.specs.declared.answer.Answer.{Answer}
@@ -27,15 +28,15 @@ use Rattle.rules.specs.declared.answer.Refusal.the-variants.{
   WrongVotes,
   BadVote,
 }
-use Rattle.rules.specs.Layout.{size, slots, mostParents, mostBookings, bookings, settingIn, stateOf, confidenceOf}
+use Rattle.rules.specs.Layout.{size, slots, mostParents, mostBookings, bookings, settingIn, stateOf}
 use Rattle.rules.specs.Setting.{isGood}
-use Rattle.rules.specs.Answers.{Outcome, outcome, leaves, done}
+use Rattle.rules.specs.Answers.{Outcome, leaves, done}
 use Rattle.rules.specs.Votes.{hasRefusedVote}
 use Rattle.rules.specs.IsSound.{isSound}
 use Rattle.rules.specs.Open.{opened}
 use Rattle.rules.specs.Book.{lookUp, isFound, numberOf, hasUnknown, hasTwice, booked}
 use Rattle.rules.specs.Poll.{polled}
-use Rattle.rules.specs.Readings.{queryOf, acceptedOf, leadOf, sizeOf}
+use Rattle.rules.specs.Readings.{readingOf}
 
 -- ---- open: 1, 3
 
@@ -55,8 +56,8 @@ abbrev pub askedOf : Found → (ℕ → Answer) → Answer
 askedOf (At i) rest = rest i
 askedOf Absent rest = Refused UnknownName
 
--- The other calls first test the workspace. The section's test is always `isSound`, given at the end of this file; that it
--- can be another with the same results lets the table of cases be computed by a faster one (proofs/Cases.antt).
+-- The other calls first test the workspace. Their test is `isSound`, given at the end of this file; that the section takes it
+-- lets the table of cases be computed with a faster one of the same results (proofs/Cases.antt).
 module _ (sound : List ℕ → Bool) where
   -- refusals 1 and 2 before the rest
   abbrev pub tested : List ℕ → Answer → Answer
@@ -100,6 +101,9 @@ module _ (sound : List ℕ → Bool) where
   abbrev pub readingBy : (ℕ → ℤ) → List ℕ → ℕ → Answer
   readingBy reading w name = tested w (askedOf (lookUp w name) (λ i. Taken (reading i)))
 
+  abbrev pub readBy : Reading → List ℕ → ℕ → Answer
+  readBy what w = readingBy (readingOf what w) w
+
 -- ---- the calls
 
 unfoldable pub bookCall : List ℕ → ℕ → ℕ → List ℕ → Outcome
@@ -112,16 +116,16 @@ abbrev pub readingCall : (ℕ → ℤ) → List ℕ → ℕ → Answer
 readingCall = readingBy isSound
 
 unfoldable pub queryCall : List ℕ → ℕ → Answer
-queryCall w = readingCall (λ i. pos (bit (queryOf w i))) w
+queryCall = readBy isSound Query
 
 unfoldable pub acceptedCall : List ℕ → ℕ → Answer
-acceptedCall w = readingCall (λ i. pos (bit (acceptedOf w i))) w
+acceptedCall = readBy isSound Accepted
 
 unfoldable pub leadCall : List ℕ → ℕ → Answer
-leadCall w = readingCall (leadOf w) w
+leadCall = readBy isSound Lead
 
 unfoldable pub confidenceCall : List ℕ → ℕ → Answer
-confidenceCall w = readingCall (λ i. pos (confidenceOf w i)) w
+confidenceCall = readBy isSound Confidence
 
 unfoldable pub sizeCall : List ℕ → ℕ → Answer
-sizeCall w = readingCall (λ i. pos (sizeOf w i)) w
+sizeCall = readBy isSound Size

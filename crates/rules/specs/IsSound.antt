@@ -70,7 +70,7 @@ parentsGood w i =
     && (not (eqb (parentOf w i 2) none) || eqb (parentOf w i 3) none)
     && parentGood w i 0 && parentGood w i 1 && parentGood w i 2 && parentGood w i 3
 
--- an ordinal above 0 that no lower record has
+-- 0, or an ordinal that no lower record has
 abbrev pub ordinalNew : List ℕ → ℕ → Bool
 ordinalNew w i = eqb (ordinalOf w i) 0 || not (any (λ j. eqb (ordinalOf w j) (ordinalOf w i)) i)
 

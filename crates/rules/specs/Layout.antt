@@ -1,6 +1,6 @@
 -- Document 01, "Numbers that bound it" and "The workspace": where each word stands, and what it is called.
--- Widths, starts and limits are named here and nowhere else (src/layout.rt has the same, for the code).
-use Prim.Native.Nat.{ℕ, _+_, _*_, _/_, _%_, _^_}
+-- Widths, starts and how many there may be are named here and nowhere else (src/layout.rt has the same, for the code).
+use Prim.Native.Nat.{ℕ, _+_, _*_}
 use mathlib.Core.List.{List}
 use lib.ListN.{getD, set}
 use Rattle.rules.specs.declared.setting.Setting.{Setting}

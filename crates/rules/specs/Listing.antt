@@ -1,11 +1,7 @@
 -- Document 01, "The text program": the fields of the listing, a row for each booking in rising number.
 use Prim.Native.Nat.{ℕ}
-use mathlib.Core.Bool.{not, cond}
 use mathlib.Core.List.{List, [], _∷_}
-use lib.ListN.{length}
-use lib.Dec.{eqb}
 use Rattle.loops.specs.Total.{bit}
-use Rattle.loops.specs.Fill.{from}
 use Rattle.rules.specs.declared.answer.Answer.{Answer}
 use Rattle.rules.specs.Answers.{done}
 use Rattle.rules.specs.Layout.{bookings, slotOf, stateOf, confidenceOf}
@@ -16,9 +12,6 @@ use Rattle.rules.specs.Calls.{tested}
 -- number, slot, state, confidence, preferred, accepted
 unfoldable pub listRow : List ℕ → ℕ → List ℕ
 listRow w i = i ∷ slotOf w i ∷ stateOf w i ∷ confidenceOf w i ∷ bit (isPreferred w i) ∷ bit (acceptedOf w i) ∷ []
-
-unfoldable pub listRows : List ℕ → List (List ℕ)
-listRows w = from (listRow w) 0 (bookings w)
 
 -- it may be refused with 1 or 2 only
 unfoldable pub listCall : List ℕ → Answer

@@ -60,7 +60,7 @@ settleOne m j w = cond (isMember m j) (follow (slotOf w j) j (prefer (slotOf w j
 abbrev pub settled : List ℕ → ℕ → List ℕ → List ℕ
 settled m n w = upTo (settleOne m) n w
 
--- on failure the state becomes 1 and nothing else changes
+-- on failure the state becomes 1, and nothing changes beyond what is noted
 abbrev pub failed : List ℕ → ℕ → List ℕ
 failed w i = noted w i 1
 

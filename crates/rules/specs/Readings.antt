@@ -1,12 +1,14 @@
 -- Document 01, "Readings": what each says of booking i. They change nothing.
 use Prim.Native.Nat.{ℕ, suc}
-use mathlib.Core.Bool.{Bool, true, _&&_, _||_, not, cond}
+use mathlib.Core.Bool.{Bool, _&&_, _||_, not, cond}
 use mathlib.Core.List.{List}
 use lib.IntN.{ℤ, pos, _-ℤ_}
 use lib.Dec.{eqb, ltb}
 use Rattle.loops.specs.Turns.{upTo}
 use Rattle.loops.specs.Search.{all}
 use Rattle.loops.specs.Total.{bit, count, greatest}
+use Rattle.rules.specs.declared.answer.Reading.{Reading}
+use Rattle.rules.specs.declared.answer.Reading.the-variants.{Query, Accepted, Lead, Confidence, Size}
 use Rattle.rules.specs.Ancestry.{ancestry, isMember, mark, unmarked}
 use Rattle.rules.specs.Layout.{
   mostParents,
@@ -76,3 +78,12 @@ leadOf w i = pos (confidenceOf w i) -ℤ pos (rivalsMost w i)
 
 unfoldable pub sizeOf : List ℕ → ℕ → ℕ
 sizeOf w i = count (isMember (ancestry w i)) (bookings w)
+
+-- ---- the value of each reading of booking i: yes is 1, and no is 0
+
+abbrev pub readingOf : Reading → List ℕ → ℕ → ℤ
+readingOf Query w i = pos (bit (queryOf w i))
+readingOf Accepted w i = pos (bit (acceptedOf w i))
+readingOf Lead w i = leadOf w i
+readingOf Confidence w i = pos (confidenceOf w i)
+readingOf Size w i = pos (sizeOf w i)

@@ -1,5 +1,5 @@
 -- Document 01, "Numbers that bound it": when a setting is good, and the paper's own.
-use Prim.Native.Nat.{ℕ, _*_, _≤_, _<_}
+use Prim.Native.Nat.{_*_, _≤_, _<_}
 use mathlib.Core.Bool.{Bool, _&&_}
 use lib.Dec.{ltb, leb}
 use Rattle.rules.specs.declared.setting.Setting.{Setting}

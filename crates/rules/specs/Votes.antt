@@ -9,7 +9,7 @@ use Rattle.loops.specs.Total.{count}
 use Rattle.rules.specs.declared.vote.Vote.{Vote}
 use Rattle.rules.specs.declared.vote.Vote.the-variants.{Yes, No, Silent, Refused}
 use Rattle.rules.specs.declared.vote.State.{State}
-use Rattle.rules.specs.declared.vote.State.the-variants.{Waiting, Failed, Chit, Unknown}
+use Rattle.rules.specs.declared.vote.State.the-variants.{Waiting, NoChit, Chit, Unknown}
 
 -- 1 is yes, 255 is no (the signed byte −1) and 0 is silent; 2 to 254 are refused
 unfoldable pub voteOf : ℕ → Vote
@@ -36,4 +36,4 @@ hasRefusedVote votes = any (λ j. isRefused (voteOf (getD votes j 0))) (length v
 
 -- 0 waiting, 1 polled without a chit, 2 chit
 unfoldable pub stateSays : ℕ → State
-stateSays word = cond (eqb word 0) Waiting (cond (eqb word 1) Failed (cond (eqb word 2) Chit Unknown))
+stateSays word = cond (eqb word 0) Waiting (cond (eqb word 1) NoChit (cond (eqb word 2) Chit Unknown))

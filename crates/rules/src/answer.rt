@@ -25,6 +25,15 @@ pub enum Answer {
     Refused(Refusal),
 }
 
+// Which of the five readings is asked for.
+pub enum Reading {
+    Query,
+    Accepted,
+    Lead,
+    Confidence,
+    Size,
+}
+
 // The number of a booking, or that there is none.
 pub enum Found {
     At(usize),

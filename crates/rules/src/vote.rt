@@ -23,7 +23,7 @@ pub fn read_vote(byte: u8) -> Vote
 
 pub enum State {
     Waiting,
-    Failed,
+    NoChit,
     Chit,
     Unknown,
 }
@@ -33,7 +33,7 @@ pub fn read_state(word: u16) -> State
 {
     match word {
         0 => State::Waiting,
-        1 => State::Failed,
+        1 => State::NoChit,
         2 => State::Chit,
         3..=65535 => State::Unknown,
     }

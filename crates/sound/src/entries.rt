@@ -10,24 +10,24 @@ ghost use Rattle.rows.specs.Counted.{Counted};
 ghost use Rattle.sound.specs.Held.{heldBelow};
 
 // The lowest slot entry that breaks a rule, or 256, where the table has the bookings of each slot.
-fn bad_entry(w: &[u16], n: usize, most: usize, held: &[u16]) -> usize
-    requires { ⌜ Counted (now w) n × (most ≡ chits (now w)) × (now held ≡ heldBelow (now w) n) ⌝ }
+fn bad_entry(w: &[u16], n: usize, limit: usize, held: &[u16]) -> usize
+    requires { ⌜ Counted (now w) n × (limit ≡ chits (now w)) × (now held ≡ heldBelow (now w) n) ⌝ }
     ensures { λ r. ⌜ r ≡ first (λ s. not (slotGood (now (w .entry)) s)) slots ⌝ }
 {
     for s in 0..layout::SLOTS {
         let count = words::wide(held[s]);
-        if !rows::slot::slot_good(w, n, most, s, count) {
+        if !rows::slot::slot_good(w, n, limit, s, count) {
             return s;
         }
     }
     layout::SLOTS
 }
 
-pub fn slots_good(w: &[u16], n: usize, most: usize) -> bool
-    requires { ⌜ Counted (now w) n × (most ≡ chits (now w)) ⌝ }
+pub fn slots_good(w: &[u16], n: usize, limit: usize) -> bool
+    requires { ⌜ Counted (now w) n × (limit ≡ chits (now w)) ⌝ }
     ensures { λ r. ⌜ r ≡ slotsGood (now (w .entry)) ⌝ }
 {
     let mut held = [0u16; layout::SLOTS];
     held::count_all(w, n, &mut held);
-    bad_entry(w, n, most, &held) == layout::SLOTS
+    bad_entry(w, n, limit, &held) == layout::SLOTS
 }

@@ -1,8 +1,8 @@
 // Is a workspace sound: the passes over its rows. Every pass is linear but for names, which are compared with all lower ones.
-pub mod entries;
-pub mod held;
-pub mod ordinals;
-pub mod records;
+mod entries;
+mod held;
+mod ordinals;
+mod records;
 
 use rules::layout;
 ghost use mathlib.Core.Path.{_≡_};
@@ -16,8 +16,8 @@ pub fn is_sound(w: &[u16]) -> bool
 {
     if rows::header::header_good(w) {
         let n = words::wide(words::head(w, layout::BOOKINGS));
-        let most = records::chits(w, n);
-        return records::records_good(w, n, most) & entries::slots_good(w, n, most);
+        let limit = records::chits(w, n);
+        return records::records_good(w, n, limit) & entries::slots_good(w, n, limit);
     }
     false
 }

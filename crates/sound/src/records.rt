@@ -1,5 +1,6 @@
 // The records.
 use crate::ordinals;
+use rows::record;
 use rules::layout;
 ghost use mathlib.Core.Path.{_≡_};
 ghost use mathlib.Core.Bool.{not, _||_};
@@ -10,7 +11,7 @@ ghost use Rattle.loops.specs.Search.{first};
 ghost use Rattle.rules.specs.Layout.{size, mostBookings, bookings, polls};
 ghost use Rattle.rules.specs.IsSound.{chits, nameNew, bookingGood, recordGood, recordsGood, recordZero};
 ghost use Rattle.rows.specs.Counted.{Counted};
-ghost use Rattle.sound.specs.Ordinals.{ordinalsBelow};
+ghost use Rattle.sound.specs.Ordinals.{ordinalsBelow, Reached};
 
 // How many of the n records are in state 2.
 pub fn chits(w: &[u16], n: usize) -> usize
@@ -19,7 +20,7 @@ pub fn chits(w: &[u16], n: usize) -> usize
 {
     let mut found = 0;
     for i in 0..n {
-        found += rows::record::chit(w, i);
+        found += record::chit(w, i);
     }
     found
 }
@@ -40,43 +41,41 @@ fn name_new(w: &[u16], i: usize) -> bool
 
 // A record below n other than the genesis, where the marks are the ordinals of the lower ones.
 fn booking_good(w: &[u16], i: usize, marks: &[u8]) -> bool
-    requires { ⌜ (length (now w) ≡ size) × (i < mostBookings) × (polls (now w) < mostBookings) × (now marks ≡ ordinalsBelow (now w) i) ⌝ }
+    requires { ⌜ Reached (now w) i (now marks) ⌝ }
     ensures { λ r. ⌜ r ≡ bookingGood (now (w .entry)) i ⌝ }
 {
-    let s = words::wide(words::get(w, i, layout::SLOT));
-    let o = words::wide(words::get(w, i, layout::ORDINAL));
+    let s = record::word(w, i, layout::SLOT);
+    let o = record::word(w, i, layout::ORDINAL);
     name_new(w, i)
         & (1 <= s)
         & (s < layout::SLOTS)
-        & rows::record::parents_good(w, i)
-        & rows::record::state_good(w, i)
+        & record::parents_good(w, i)
+        & record::state_good(w, i)
         & ((o == 0) | !ordinals::is_marked(marks, o))
 }
 
-// A record below n, where the marks are the ordinals of the lower ones and most records are in state 2.
-fn record_good(w: &[u16], i: usize, most: usize, marks: &[u8]) -> bool
-    requires { ⌜ (length (now w) ≡ size) × (i < mostBookings) × (polls (now w) < mostBookings) × (now marks ≡ ordinalsBelow (now w) i) ⌝ }
-    requires { ⌜ most ≡ chits (now w) ⌝ }
+// A record below n, where the marks are the ordinals of the lower ones and limit is the number of records in state 2.
+fn record_good(w: &[u16], i: usize, limit: usize, marks: &[u8]) -> bool
+    requires { ⌜ Reached (now w) i (now marks) × (limit ≡ chits (now w)) ⌝ }
     ensures { λ r. ⌜ r ≡ recordGood (now (w .entry)) i ⌝ }
 {
-    let confidence = words::wide(words::get(w, i, layout::CONFIDENCE));
+    let confidence = record::word(w, i, layout::CONFIDENCE);
     if i == 0 {
-        return rows::record::genesis_good(w) & (confidence <= most);
+        return record::genesis_good(w) & (confidence <= limit);
     }
-    booking_good(w, i, marks) & (confidence <= most)
+    booking_good(w, i, marks) & (confidence <= limit)
 }
 
 // The lowest of the n records that breaks a rule, or n. The ordinals of those before it are marked then.
-fn bad_record(w: &[u16], n: usize, most: usize, marks: &mut [u8]) -> usize
-    requires { ⌜ Counted (now w) n × (polls (now w) < mostBookings) × (now marks ≡ ordinalsBelow (now w) 0) ⌝ }
-    requires { ⌜ most ≡ chits (now w) ⌝ }
+fn bad_record(w: &[u16], n: usize, limit: usize, marks: &mut [u8]) -> usize
+    requires { ⌜ Counted (now w) n × Reached (now w) 0 (now marks) × (limit ≡ chits (now w)) ⌝ }
     ensures { λ r. ⌜ (r ≡ first (λ i. not (recordGood (now (w .entry)) i)) n) × (now (marks .exit) ≡ ordinalsBelow (now (w .entry)) r) ⌝ }
 {
     for i in 0..n {
-        if !record_good(w, i, most, marks) {
+        if !record_good(w, i, limit, marks) {
             return i;
         }
-        let o = words::wide(words::get(w, i, layout::ORDINAL));
+        let o = record::word(w, i, layout::ORDINAL);
         ordinals::mark(marks, o);
     }
     n
@@ -88,20 +87,20 @@ fn stray_record(w: &[u16], n: usize) -> usize
     ensures { λ r. ⌜ r ≡ first (λ i. not (ltb i (bookings (now (w .entry))) || recordZero (now (w .entry)) i)) mostBookings ⌝ }
 {
     for i in n..layout::MOST_BOOKINGS {
-        if !rows::record::record_zero(w, i) {
+        if !record::record_zero(w, i) {
             return i;
         }
     }
     layout::MOST_BOOKINGS
 }
 
-pub fn records_good(w: &[u16], n: usize, most: usize) -> bool
-    requires { ⌜ Counted (now w) n × (polls (now w) < mostBookings) × (most ≡ chits (now w)) ⌝ }
+pub fn records_good(w: &[u16], n: usize, limit: usize) -> bool
+    requires { ⌜ Counted (now w) n × (polls (now w) < mostBookings) × (limit ≡ chits (now w)) ⌝ }
     ensures { λ r. ⌜ r ≡ recordsGood (now (w .entry)) ⌝ }
 {
     let p = words::wide(words::head(w, layout::POLLS));
     let mut marks = [0u8; layout::MOST_BOOKINGS];
-    if bad_record(w, n, most, &mut marks) == n {
+    if bad_record(w, n, limit, &mut marks) == n {
         return ordinals::all_marked(&marks, p) & (stray_record(w, n) == layout::MOST_BOOKINGS);
     }
     false

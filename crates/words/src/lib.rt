@@ -37,7 +37,8 @@ pub fn head(w: &[u16], f: usize) -> u16
     requires { ⌜ (length (now w) ≡ size) × (f < headerWords) ⌝ }
     ensures { λ r. ⌜ r ≡ header (now (w .entry)) f ⌝ }
 {
-    w[f]
+    let word = w[f];
+    word
 }
 
 pub fn set_head(w: &mut [u16], f: usize, v: u16)
@@ -59,7 +60,8 @@ pub fn set_field(w: &mut [u16], i: usize, f: usize, v: u16)
     requires { ⌜ (length (now w) ≡ size) × (i < mostBookings) × (f < recordWords) ⌝ }
     ensures { λ _. ⌜ now (w .exit) ≡ withField (now (w .entry)) i f v ⌝ }
 {
-    w[layout::HEADER_WORDS + layout::RECORD_WORDS * i + f] = v;
+    let at = layout::HEADER_WORDS + layout::RECORD_WORDS * i + f;
+    w[at] = v;
 }
 
 // Word f of slot entry s.
@@ -74,7 +76,8 @@ pub fn set_entry(w: &mut [u16], s: usize, f: usize, v: u16)
     requires { ⌜ (length (now w) ≡ size) × (s < slots) × (f < slotWords) ⌝ }
     ensures { λ _. ⌜ now (w .exit) ≡ withEntry (now (w .entry)) s f v ⌝ }
 {
-    w[layout::SLOTS_START + layout::SLOT_WORDS * s + f] = v;
+    let at = layout::SLOTS_START + layout::SLOT_WORDS * s + f;
+    w[at] = v;
 }
 
 // The name of record i: four words, highest part first.

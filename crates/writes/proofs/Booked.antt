@@ -2,18 +2,17 @@
 use mathlib.Core.Path.{_≡_}
 use mathlib.Core.Bool.{Bool, true, false, _||_, true≢false}
 use mathlib.Core.List.{List}
-use mathlib.Core.Logic.{_≢_}
 use Prim.Native.Nat.{ℕ, _<_, _≤_}
+use native.Mathlib.Omega.{arith}
 use lib.ListN.{length}
 use lib.Dec.{eqb, leb, ltb}
-use borrow.Author.Tests.{eq-eqb, ne-eqb, leb-false, ltb-false}
-use Rattle.rules.specs.declared.answer.Found.the-variants.{At, Absent}
+use borrow.Author.Tests.{eqb-false, leb-false, ltb-false}
 use Rattle.rules.specs.declared.answer.Answer.the-variants.{Refused}
 use Rattle.rules.specs.declared.answer.Refusal.the-variants.{NameTaken, BadSlot, BadParents, UnknownParent, ParentTwice, Full}
 use Rattle.rules.specs.Layout.{slots, mostParents, mostBookings, bookings}
 use Rattle.rules.specs.Answers.{outcome, done}
 use Rattle.rules.specs.Sound.{Ledger}
-use Rattle.rules.specs.Book.{lookUp, hasUnknown, hasTwice, booked}
+use Rattle.rules.specs.Book.{lookUp, isFound, hasUnknown, hasTwice, booked}
 use Rattle.rules.specs.Calls.{bookCall}
 use Rattle.rules.proofs.Tested.{tested-known}
 use Rattle.writes.specs.Parents.{parentsCall}
@@ -31,22 +30,22 @@ module _ (w : List ℕ) (name slot : ℕ) (parents : List ℕ) where
     parents-twice t = rw (known, t)
 
     module _ (once : hasTwice parents ≡ false) where
-      pub parents-full : bookings w ≡ mostBookings → outcome (Refused Full) w ≡ parentsCall w name slot parents
+      pub parents-full : eqb (bookings w) mostBookings ≡ true → outcome (Refused Full) w ≡ parentsCall w name slot parents
       unfolding parentsCall
-      parents-full f = rw (known, once, eq-eqb (bookings w) mostBookings f)
+      parents-full f = rw (known, once, f)
 
-      pub parents-taken : bookings w ≢ mostBookings → outcome done (booked w name slot parents) ≡ parentsCall w name slot parents
+      pub parents-taken : eqb (bookings w) mostBookings ≡ false → outcome done (booked w name slot parents) ≡ parentsCall w name slot parents
       unfolding parentsCall
-      parents-taken f = rw (known, once, ne-eqb (bookings w) mostBookings f)
+      parents-taken f = rw (known, once, f)
 
   -- ---- 4, 5, 6
 
   module _ (ledger : Ledger w) where
-    pub book-name : {i : ℕ} → lookUp w name ≡ At i → outcome (Refused NameTaken) w ≡ bookCall w name slot parents
+    pub book-name : isFound (lookUp w name) ≡ true → outcome (Refused NameTaken) w ≡ bookCall w name slot parents
     unfolding bookCall
     book-name f = rw (tested-known, f)
 
-    module _ (absent : lookUp w name ≡ Absent) where
+    module _ (absent : isFound (lookUp w name) ≡ false) where
       pub book-slot : (eqb slot 0 || leb slots slot) ≡ true → outcome (Refused BadSlot) w ≡ bookCall w name slot parents
       unfolding bookCall
       book-slot s = rw (tested-known, absent, s)
@@ -60,7 +59,7 @@ module _ (w : List ℕ) (name slot : ℕ) (parents : List ℕ) where
         unfolding bookCall parentsCall
         book-rest p = rw (tested-known, absent, fits, p)
 
--- ---- what the tests of slot and list leave
+-- ---- what the tests that fail leave
 
 neither-second : (a b : Bool) → (a || b) ≡ false → b ≡ false
 neither-second true b e = absurd (true≢false e)
@@ -71,3 +70,6 @@ slot-lt slot e = leb-false slots slot (neither-second (eqb slot 0) (leb slots sl
 
 pub count-most : (n : ℕ) → (eqb n 0 || ltb mostParents n) ≡ false → n ≤ mostParents
 count-most n e = ltb-false mostParents n (neither-second (eqb n 0) (ltb mostParents n) e)
+
+pub not-full : (n : ℕ) → n ≤ mostBookings → eqb n mostBookings ≡ false → n < mostBookings
+not-full n h e = omega (arith, eqb-false n mostBookings e)

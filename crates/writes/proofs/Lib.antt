@@ -1,5 +1,5 @@
--- Laws that several proofs cite. They assume nothing.
+-- Laws that several proofs cite, or that speak of the definitions alone. They assume nothing.
 pub mod Parents
-pub mod Polled
-pub mod States
 pub mod Booked
+pub mod States
+pub mod Polled

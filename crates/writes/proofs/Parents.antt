@@ -1,5 +1,5 @@
 -- The parents looked up one after another: where none is unknown, their numbers are those of the booking.
-use mathlib.Core.Path.{_≡_, refl}
+use mathlib.Core.Path.{_≡_, refl, ap, _∙_}
 use mathlib.Core.Bool.{Bool, true, false, cond}
 use mathlib.Core.List.{List, [], _∷_}
 use Prim.Native.Nat.{ℕ, _≤_}
@@ -9,14 +9,13 @@ use borrow.Author.Tests.{ltb-false}
 use Rattle.loops.specs.Turns.{upTo}
 use Rattle.loops.proofs.Search.{first-le}
 use Rattle.rules.specs.declared.answer.Answer.{Answer}
-use Rattle.rules.specs.declared.answer.Answer.the-variants.{Taken, Refused}
-use Rattle.rules.specs.declared.answer.Refusal.{Refusal}
+use Rattle.rules.specs.declared.answer.Answer.the-variants.{Refused}
 use Rattle.rules.specs.declared.answer.Refusal.the-variants.{UnknownParent}
 use Rattle.rules.specs.Layout.{mostParents, none}
 use Rattle.rules.specs.Answers.{done}
 use Rattle.rules.specs.Book.{isAbsent, parentFound, hasUnknown}
 use Rattle.booking.specs.Numbered.{parentNumbers}
-use Rattle.writes.specs.Parents.{firstUnknown, withNumbers}
+use Rattle.writes.specs.Parents.{firstUnknown, withNumbers, Looked, isRefusal}
 
 -- four unused places, filled from the first on
 pub withNumbers-all : (w parents : List ℕ) → length parents ≤ mostParents → withNumbers w parents (length parents) (replicate mostParents none) ≡ parentNumbers w parents
@@ -35,10 +34,13 @@ firstUnknown-none w parents e =
 
 -- ---- what the answer says of the test
 
-pub looked-taken : (b : Bool) {r : Answer} {v : _} → r ≡ cond b (Refused UnknownParent) done → r ≡ Taken v → b ≡ false
-looked-taken true e f = let z : _≡_ {A = ℕ} 0 1 = cc in absurd (omega arith)
-looked-taken false e f = refl
+refusal-first : (b : Bool) → isRefusal (cond b (Refused UnknownParent) done) ≡ b
+refusal-first true = refl
+refusal-first false = refl
 
-pub looked-refused : (b : Bool) {r : Answer} {x : Refusal} → r ≡ cond b (Refused UnknownParent) done → r ≡ Refused x → (b ≡ true) × (r ≡ Refused UnknownParent)
-looked-refused true e f = (refl, e)
-looked-refused false e f = let z : _≡_ {A = ℕ} 0 1 = cc in absurd (omega arith)
+module _ {w parents numbers : List ℕ} {r : Answer} {numbers′ : List ℕ} (l : Looked w parents numbers r numbers′) where
+  pub looked-refusal : isRefusal r ≡ hasUnknown w parents
+  looked-refusal = ap isRefusal (l .answer) ∙ refusal-first (hasUnknown w parents)
+
+  pub looked-unknown : hasUnknown w parents ≡ true → r ≡ Refused UnknownParent
+  looked-unknown u = l .answer ∙ rw u

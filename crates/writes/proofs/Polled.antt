@@ -1,11 +1,10 @@
 -- A poll on a ledger by its cases, in the order of its refusals: each case is what the law's call gives.
 use mathlib.Core.Path.{_≡_}
-use mathlib.Core.Bool.{true, false}
+use mathlib.Core.Bool.{true, false, not}
 use mathlib.Core.List.{List}
-use mathlib.Core.Logic.{_≢_}
 use Prim.Native.Nat.{ℕ}
 use lib.ListN.{length}
-use borrow.Author.Tests.{eq-eqb, ne-eqb}
+use lib.Dec.{eqb}
 use Rattle.rules.specs.declared.answer.Found.the-variants.{At, Absent}
 use Rattle.rules.specs.declared.answer.Answer.the-variants.{Refused}
 use Rattle.rules.specs.declared.answer.Refusal.the-variants.{UnknownName, NotWaiting, WrongVotes, BadVote}
@@ -24,20 +23,20 @@ module _ (w : List ℕ) (name : ℕ) (votes : List ℕ) (ledger : Ledger w) wher
   poll-absent a = rw (tested-known, a)
 
   module _ (i : ℕ) (found : lookUp w name ≡ At i) where
-    pub poll-state : stateOf w i ≢ 0 → outcome (Refused NotWaiting) w ≡ pollCall w name votes
+    pub poll-over : not (eqb (stateOf w i) 0) ≡ true → outcome (Refused NotWaiting) w ≡ pollCall w name votes
     unfolding pollCall
-    poll-state s = rw (tested-known, found, ne-eqb (stateOf w i) 0 s)
+    poll-over s = rw (tested-known, found, s)
 
-    module _ (waiting : stateOf w i ≡ 0) where
-      pub poll-length : length votes ≢ settingIn w .k → outcome (Refused WrongVotes) w ≡ pollCall w name votes
+    module _ (waiting : not (eqb (stateOf w i) 0) ≡ false) where
+      pub poll-miscounted : not (eqb (length votes) (settingIn w .k)) ≡ true → outcome (Refused WrongVotes) w ≡ pollCall w name votes
       unfolding pollCall
-      poll-length k = rw (tested-known, found, eq-eqb (stateOf w i) 0 waiting, ne-eqb (length votes) (settingIn w .k) k)
+      poll-miscounted k = rw (tested-known, found, waiting, k)
 
-      module _ (counted : length votes ≡ settingIn w .k) where
-        pub poll-vote : hasRefusedVote votes ≡ true → outcome (Refused BadVote) w ≡ pollCall w name votes
+      module _ (counted : not (eqb (length votes) (settingIn w .k)) ≡ false) where
+        pub poll-bad : hasRefusedVote votes ≡ true → outcome (Refused BadVote) w ≡ pollCall w name votes
         unfolding pollCall
-        poll-vote v = rw (tested-known, found, eq-eqb (stateOf w i) 0 waiting, eq-eqb (length votes) (settingIn w .k) counted, v)
+        poll-bad v = rw (tested-known, found, waiting, counted, v)
 
         pub poll-taken : hasRefusedVote votes ≡ false → outcome done (polled w i votes) ≡ pollCall w name votes
         unfolding pollCall
-        poll-taken v = rw (tested-known, found, eq-eqb (stateOf w i) 0 waiting, eq-eqb (length votes) (settingIn w .k) counted, v)
+        poll-taken v = rw (tested-known, found, waiting, counted, v)

@@ -1,14 +1,14 @@
 -- The parents of a booking, looked up one after another, and the refusals that are judged of them.
 use Prim.Native.Nat.{ℕ}
 use mathlib.Core.Path.{_≡_}
-use mathlib.Core.Bool.{cond}
+use mathlib.Core.Bool.{Bool, true, false, cond}
 use mathlib.Core.List.{List}
 use lib.ListN.{length, set}
 use lib.Dec.{eqb}
 use Rattle.loops.specs.Search.{first}
 use Rattle.loops.specs.Turns.{upTo}
 use Rattle.rules.specs.declared.answer.Answer.{Answer}
-use Rattle.rules.specs.declared.answer.Answer.the-variants.{Refused}
+use Rattle.rules.specs.declared.answer.Answer.the-variants.{Taken, Refused}
 use Rattle.rules.specs.declared.answer.Refusal.the-variants.{UnknownParent, ParentTwice, Full}
 use Rattle.rules.specs.Layout.{bookings, mostBookings}
 use Rattle.rules.specs.Answers.{Outcome, leaves, done}
@@ -27,6 +27,10 @@ pub record Looked (w parents numbers : List ℕ) (r : Answer) (numbers′ : List
   pub answer : r ≡ cond (hasUnknown w parents) (Refused UnknownParent) done
   pub after : numbers′ ≡ withNumbers w parents (firstUnknown w parents) numbers
 
+abbrev pub isRefusal : Answer → Bool
+isRefusal (Taken v) = false
+isRefusal (Refused x) = true
+
 -- refusals 7, 8 and 9: what is left of a booking's refusals once its name, its slot and the number of its parents pass
 abbrev pub parentsAnswer : List ℕ → List ℕ → Answer
 parentsAnswer w parents =
@@ -35,6 +39,6 @@ parentsAnswer w parents =
     (cond (eqb (bookings w) mostBookings) (Refused Full)
     done))
 
--- what they and the booking leave
+-- a refusal leaves every word, and a taken call the booking
 unfoldable pub parentsCall : List ℕ → ℕ → ℕ → List ℕ → Outcome
 parentsCall w name slot parents = leaves (parentsAnswer w parents) w (booked w name slot parents)

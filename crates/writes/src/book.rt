@@ -11,8 +11,20 @@ ghost use lib.ListN.{length};
 ghost use Rattle.rules.specs.Layout.{slots, mostParents};
 ghost use Rattle.rules.specs.Answers.{outcome};
 ghost use Rattle.rules.specs.Sound.{Ledger};
+ghost use Rattle.rules.specs.Book.{lookUp, isFound};
 ghost use Rattle.rules.specs.Calls.{bookCall};
-ghost use Rattle.writes.specs.Parents.{Looked, parentsCall};
+ghost use Rattle.writes.specs.Parents.{Looked, isRefusal, parentsCall};
+
+// The name is already booked.
+fn is_booked(w: &[u16], name: u64) -> bool
+    requires { ⌜ Ledger (now w) ⌝ }
+    ensures { λ r. ⌜ r ≡ isFound (lookUp (now (w .entry)) name) ⌝ }
+{
+    match readings::booking::find(w, name) {
+        Found::At(_) => true,
+        Found::Absent => false,
+    }
+}
 
 // Each parent's name is looked up in the order given, and its number stored in its place; one that is not found ends the call.
 fn look_parents(w: &[u16], parents: &[u64], numbers: &mut [u16; layout::MOST_PARENTS]) -> Answer
@@ -28,39 +40,54 @@ fn look_parents(w: &[u16], parents: &[u64], numbers: &mut [u16; layout::MOST_PAR
     Answer::Taken(0)
 }
 
-// Refusals 7, 8 and 9, and the booking.
+fn is_refusal(answer: Answer) -> bool
+    ensures { λ r. ⌜ r ≡ isRefusal answer ⌝ }
+{
+    match answer {
+        Answer::Taken(_) => false,
+        Answer::Refused(_) => true,
+    }
+}
+
+// What refusals 7, 8 and 9 ask is asked first; then the first that applies is given, or the booking is written.
 fn book_parents(w: &mut [u16], name: u64, slot: u16, parents: &[u64]) -> Answer
     requires { ⌜ Ledger (now w) × (slot < slots) × (length (now parents) ≤ mostParents) ⌝ }
     ensures { λ r. ⌜ outcome r (now (w .exit)) ≡ parentsCall (now (w .entry)) name slot (now (parents .entry)) ⌝ }
 {
     let mut numbers = [layout::NONE; layout::MOST_PARENTS];
     let looked = look_parents(w, parents, &mut numbers);
-    let Answer::Taken(_) = looked else {
+    let unknown = is_refusal(looked);
+    let twice = naming::has_twice(parents);
+    let full = readings::booking::how_many(w) == layout::MOST_BOOKINGS;
+    if unknown {
         return looked;
-    };
-    if naming::has_twice(parents) {
+    }
+    if twice {
         return Answer::Refused(Refusal::ParentTwice);
     }
-    if readings::booking::how_many(w) == layout::MOST_BOOKINGS {
+    if full {
         return Answer::Refused(Refusal::Full);
     }
     writing::write_booking(w, name, slot, &numbers);
     Answer::Taken(0)
 }
 
-// Refusals 4, 5 and 6 come before what the parents are.
+// Refusals 4, 5 and 6 come before those of the parents.
 pub fn book(w: &mut [u16], name: u64, slot: u16, parents: &[u64]) -> Answer
     requires { ⌜ Ledger (now w) ⌝ }
     ensures { λ r. ⌜ outcome r (now (w .exit)) ≡ bookCall (now (w .entry)) name slot (now (parents .entry)) ⌝ }
 {
-    let Found::Absent = readings::booking::find(w, name) else {
+    let count = parents.len();
+    let taken = is_booked(w, name);
+    let bad_slot = (slot == 0) | (layout::SLOTS <= words::wide(slot));
+    let bad_count = (count == 0) | (layout::MOST_PARENTS < count);
+    if taken {
         return Answer::Refused(Refusal::NameTaken);
-    };
-    if (slot == 0) | (layout::SLOTS <= words::wide(slot)) {
+    }
+    if bad_slot {
         return Answer::Refused(Refusal::BadSlot);
     }
-    let count = parents.len();
-    if (count == 0) | (layout::MOST_PARENTS < count) {
+    if bad_count {
         return Answer::Refused(Refusal::BadParents);
     }
     book_parents(w, name, slot, parents)

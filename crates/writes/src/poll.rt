@@ -9,8 +9,10 @@ use rules::vote::State;
 use votes;
 ghost use mathlib.Core.Path.{_≡_};
 ghost use Prim.Native.Nat.{_<_};
+ghost use mathlib.Core.Bool.{not};
 ghost use lib.ListN.{length};
-ghost use Rattle.rules.specs.Layout.{size, bookings};
+ghost use lib.Dec.{eqb};
+ghost use Rattle.rules.specs.Layout.{size, mostBookings, bookings, stateOf};
 ghost use Rattle.rules.specs.Answers.{outcome};
 ghost use Rattle.rules.specs.Sound.{Ledger};
 ghost use Rattle.rules.specs.Poll.{isSuccess, polled};
@@ -37,7 +39,20 @@ fn write_poll(w: &mut [u16], i: usize, votes: &[u8])
     }
 }
 
-// Refusals 10, 11, 12 and 13, and the poll.
+// The state of booking i isn't 0.
+fn is_polled(w: &[u16], i: usize) -> bool
+    requires { ⌜ (length (now w) ≡ size) × (i < mostBookings) ⌝ }
+    ensures { λ r. ⌜ r ≡ not (eqb (stateOf (now (w .entry)) i) 0) ⌝ }
+{
+    match vote::read_state(words::get(w, i, layout::STATE)) {
+        State::Waiting => false,
+        State::NoChit => true,
+        State::Chit => true,
+        State::Unknown => true,
+    }
+}
+
+// What refusals 11, 12 and 13 ask is asked of the booking found; then the first that applies is given, or the poll is written.
 pub fn poll(w: &mut [u16], name: u64, votes: &[u8]) -> Answer
     requires { ⌜ Ledger (now w) ⌝ }
     ensures { λ r. ⌜ outcome r (now (w .exit)) ≡ pollCall (now (w .entry)) name (now (votes .entry)) ⌝ }
@@ -45,13 +60,16 @@ pub fn poll(w: &mut [u16], name: u64, votes: &[u8]) -> Answer
     let Found::At(i) = readings::booking::find(w, name) else {
         return Answer::Refused(Refusal::UnknownName);
     };
-    let State::Waiting = vote::read_state(words::get(w, i, layout::STATE)) else {
+    let polled = is_polled(w, i);
+    let miscounted = votes.len() != words::wide(words::head(w, layout::K));
+    let bad_vote = votes::has_refused(votes);
+    if polled {
         return Answer::Refused(Refusal::NotWaiting);
-    };
-    if votes.len() != words::wide(words::head(w, layout::K)) {
+    }
+    if miscounted {
         return Answer::Refused(Refusal::WrongVotes);
     }
-    if votes::has_refused(votes) {
+    if bad_vote {
         return Answer::Refused(Refusal::BadVote);
     }
     write_poll(w, i, votes);

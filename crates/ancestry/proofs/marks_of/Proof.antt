@@ -2,7 +2,7 @@
 use mathlib.Core.Path.{ap, _∙_}
 use borrow.Author.Needs.{needs}
 use Rattle.rules.specs.Ancestry.{sweep}
-use Rattle.ancestry.proofs.Sweep.{ancestry-swept}
+use Rattle.rules.proofs.Ancestry.{sweep-all}
 use Rattle.ancestry.proofs.marks_of.Statement.{statement}
 use Rattle.ancestry.proofs.marks_of.Tie as tie
 
@@ -25,7 +25,7 @@ returns : tie.Need-returns
 returns c =
     let swept = c .before .sweep-down in
     let marked = c .before .before .before .before .mark-one in
-    rw ancestry-swept (swept .ensures ∙ ap (sweep _ _) (marked .ensures))
+    swept .ensures ∙ ap (sweep _ _) (marked .ensures) ∙ sweep-all _ _
 
 pub marks-of-spec : {M : Type 1} → statement M
 marks-of-spec =

@@ -5,7 +5,7 @@ use native.Mathlib.Omega.{arith}
 use lib.ListN.{length}
 use borrow.Author.Needs.{needs}
 use Rattle.rules.specs.Ancestry.{sweep}
-use Rattle.ancestry.proofs.Sweep.{sweep-turn, sweep-over}
+use Rattle.rules.proofs.Ancestry.{sweep-turn, sweep-done}
 use Rattle.ancestry.proofs.sweep_down.Statement.{statement}
 use Rattle.ancestry.proofs.sweep_down.Tie as tie
 
@@ -38,7 +38,7 @@ same-length : tie.Need-same-length Inv-loop μ-loop
 same-length c = omega arith
 
 returns : tie.Need-returns Inv-loop μ-loop
-returns c = sym (c .before .loop .inv .2 ∙ sweep-over _ _ _ (omega arith))
+returns c = sym (c .before .loop .inv .2 ∙ sweep-done _ _ _ (omega arith))
 
 pub sweep-down-spec : {M : Type 1} → statement M
 sweep-down-spec =

@@ -6,7 +6,7 @@ use borrow.Author.Needs.{needs}
 use Rattle.rules.specs.declared.answer.Answer.the-variants.{Taken}
 use Rattle.rules.proofs.Lookup.{found-below}
 use Rattle.rules.proofs.Tested.{reading-found, reading-absent}
-use Rattle.asks.specs.Asked.{readingOf}
+use Rattle.rules.specs.Readings.{readingOf}
 use Rattle.asks.proofs.ask.Statement.{statement}
 use Rattle.asks.proofs.ask.Tie as tie
 

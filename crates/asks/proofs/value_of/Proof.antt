@@ -5,7 +5,7 @@ use mir.Syntax.{w64}
 use mir.ValLaws.{toZ-ofZ}
 use borrow.Author.Needs.{needs}
 use Rattle.loops.specs.Total.{bit}
-use Rattle.asks.specs.Asked.{readingOf}
+use Rattle.rules.specs.Readings.{readingOf}
 use Rattle.asks.proofs.value_of.Statement.{statement}
 use Rattle.asks.proofs.value_of.Tie as tie
 

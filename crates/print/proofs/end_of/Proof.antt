@@ -1,5 +1,4 @@
 -- A line feed follows the last field, a space any other.
-use native.Mathlib.Omega.{arith}
 use borrow.Author.Needs.{needs}
 use borrow.Author.Tests.{lt-ltb, le-ltb}
 use Rattle.print.proofs.end_of.Statement.{statement}

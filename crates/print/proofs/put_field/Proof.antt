@@ -1,5 +1,4 @@
 -- The number has at most twenty digits, so there is room for it and for the byte after it.
-use lib.ListN.{length}
 use native.Mathlib.Omega.{arith}
 use borrow.Author.Needs.{needs}
 use Rattle.print.proofs.Puts.{put-then}

@@ -7,7 +7,7 @@ use borrow.Author.Needs.{needs}
 use Rattle.loops.proofs.Turns.{upTo-zero, upTo-more}
 use Rattle.rules.specs.Layout.{size}
 use Rattle.rules.specs.Poll.{raised}
-use Rattle.raising.proofs.Raises.{raised-later}
+use Rattle.rules.proofs.Raised.{confidence-raised-rest}
 use Rattle.raising.proofs.raise.Statement.{statement}
 use Rattle.raising.proofs.raise.Tie as tie
 
@@ -24,7 +24,7 @@ raise-one-requires : tie.Need-raise-one-requires Inv-loop μ-loop
 raise-one-requires c κs =
     let L = c .before .before .loop in
     let S = c .before .before .before .before .before in
-    (search needs, search needs, omega arith, rw (L .inv .2, raised-later (S .args .marks .now) (L .j) (S .args .w .now) (L .j) (omega arith)) (S .pre .0 .confidenceFits (L .j) (omega arith)))
+    (search needs, search needs, omega arith, rw (L .inv .2, confidence-raised-rest (S .args .marks .now) (L .j) (S .args .w .now) (L .j) (omega arith)) (S .pre .0 .confidenceFits (L .j) (omega arith)))
 
 add-j : tie.Need-add-j Inv-loop μ-loop
 add-j c = omega arith

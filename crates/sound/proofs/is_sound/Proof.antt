@@ -1,9 +1,8 @@
 -- A good header tells that n fits and p is below it; on that the passes say the rest of the rule.
-use Prim.Native.Nat.{_≤_, _<_}
+use Prim.Native.Nat.{ℕ, _+_, _≤_, _<_}
 use mathlib.Core.Path.{_≡_, refl, sym, _∙_}
 use mathlib.Core.Bool.{Bool, true, false, _&&_, false≢true}
 use mathlib.Core.List.{List}
-use Prim.Native.Nat.{ℕ, _+_}
 use native.Mathlib.Omega.{arith}
 use lib.Dec.{leb, ltb, eqb}
 use borrow.Author.Needs.{needs}
@@ -11,7 +10,6 @@ use borrow.Author.Tests.{leb-true, ltb-true}
 use Rattle.rules.specs.Layout.{mostBookings, header, bookings, settingIn, polls, spareField}
 use Rattle.rules.specs.Setting.{isGood}
 use Rattle.rules.specs.IsSound.{headerGood, isSound}
-use Rattle.rows.specs.Counted.{Counted}
 use Rattle.sound.proofs.is_sound.Statement.{statement}
 use Rattle.sound.proofs.is_sound.Tie as tie
 

@@ -2,11 +2,11 @@
 use mathlib.Core.Path.{refl, sym, ap, _∙_}
 use borrow.Author.Tests.{lt-ltb, le-ltb}
 use Rattle.parse.specs.declared.command.Command.the-variants.{Open}
-use Rattle.parse.specs.Words.{wordsAfter}
-use Rattle.parse.specs.Numbers.{shortMost}
-use Rattle.parse.specs.Lists.{openMost}
+use Rattle.scan.specs.Words.{wordsAfter}
+use Rattle.scan.specs.Numbers.{shortMost}
+use Rattle.scan.specs.Lists.{openMost}
 use Rattle.parse.specs.Line.{settingOf, openSays}
-use Rattle.parse.proofs.Leading.{leading-le, listed-whole}
+use Rattle.scan.proofs.Leading.{leading-le, listed-whole}
 use borrow.Author.Needs.{needs}
 use Rattle.parse.proofs.line.read_open.Statement.{statement}
 use Rattle.parse.proofs.line.read_open.Tie as tie

@@ -18,7 +18,7 @@ raise-requires : tie.Need-raise-requires
 raise-requires c κs =
     let N = c .before .before .before in
     let S = N .before .before .before .before .before .before .before in
-    (rw (N .note .ensures, N .before .before .wide .ensures .0, N .before .before .before .head .ensures) (noted-raising (S .args .w .now) (S .args .i) 2 _ (Ledger→Raising (S .pre .0))), search needs)
+    (rw (N .note .ensures, N .before .before .wide .ensures .0, N .before .before .before .head .ensures) (noted-raising (S .args .w .now) (S .args .i) _ _ (Ledger→Raising (S .pre .0))), search needs)
 
 settle-requires : tie.Need-settle-requires
 settle-requires c κs =
@@ -26,7 +26,7 @@ settle-requires c κs =
     let N = R .before .before .before .before in
     let S = N .before .before .before .before .before .before .before in (
       rw (R .raise .ensures, N .note .ensures, N .before .before .wide .ensures .0, N .before .before .before .head .ensures)
-          (raised-noted-settling (S .args .w .now) (S .args .i) 2 (S .args .marks .now) _ (omega (arith, S .pre .0 .sound .bookingsMost)) (Ledger→Settling (S .pre .0))),
+          (raised-noted-settling (S .args .w .now) (S .args .i) _ (S .args .marks .now) _ (omega (arith, S .pre .0 .sound .bookingsMost)) (Ledger→Settling (S .pre .0))),
       search needs,
     )
 

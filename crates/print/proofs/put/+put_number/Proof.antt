@@ -1,15 +1,11 @@
 -- A number below ten is its last digit; any other is the digits of its tenth, which is smaller, and then the last digit.
-use mathlib.Core.Path.{_≡_, ap}
-use mathlib.Core.List.{List, [], _∷_}
-use Prim.Native.Nat.{ℕ, _+_, _<_, _/_, _%_}
+use mathlib.Core.Path.{ap}
+use Prim.Native.Nat.{ℕ, _+_, _<_}
 use native.Mathlib.Omega.{arith}
-use lib.ListN.{length, length-append}
+use lib.ListN.{length}
 use borrow.Author.Needs.{needs}
 use borrow.Fn.Kinds.{In}
 use borrow.Fn.PlainCycle.{Measures, is, falls, and}
-use Rattle.print.specs.Put.{Put}
-use Rattle.text.specs.Bytes.{digit}
-use Rattle.print.specs.Decimal.{decimal}
 use Rattle.print.proofs.Puts.{put-then}
 use Rattle.print.proofs.Decimals.{decimal-low, decimal-high, decimal-high-length}
 use Rattle.print.proofs.put.put_number.Reads as put-number

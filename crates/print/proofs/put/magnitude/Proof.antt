@@ -1,13 +1,10 @@
 -- Below zero the size is one more than what is left above -1; otherwise the number is its own size.
-use mathlib.Core.Path.{_≡_, sym, ap, _∙_}
-use mathlib.Core.Bool.{true, false}
-use Prim.Native.Nat.{_+_}
+use mathlib.Core.Path.{_≡_}
 use native.Mathlib.Omega.{arith}
-use lib.Dec.{T}
-use lib.IntN.{pos, negsuc, natAbs, _-ℤ_}
-use lib.Signed.{mag, nonNeg, ltZ}
+use lib.IntN.{pos, negsuc, _-ℤ_}
+use lib.Signed.{mag}
 use mir.Syntax.{w64}
-use mir.Val.{toZ, ofZ, SFits}
+use mir.Val.{toZ, ofZ}
 use mir.ValLaws.{toZ-ofZ, toZ-pos}
 use borrow.Author.Needs.{needs}
 use Rattle.print.proofs.Signs.{rest-below, natAbs-below, natAbs-le, nonNeg-above}

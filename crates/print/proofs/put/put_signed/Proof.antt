@@ -1,11 +1,10 @@
 -- The sign is written, and then the number without it.
-use mathlib.Core.Path.{_≡_, ap, _∙_}
+use mathlib.Core.Path.{_≡_}
 use mir.Syntax.{w64}
 use mir.Val.{toZ, ofZ}
 use mir.ValLaws.{toZ-ofZ}
 use lib.IntN.{natAbs}
 use borrow.Author.Needs.{needs}
-use Rattle.print.specs.Put.{Put}
 use Rattle.print.specs.Decimal.{decimal, sign, signed}
 use Rattle.print.proofs.Puts.{put-then, room-first, room-next}
 use Rattle.print.proofs.put.put_signed.Statement.{statement}

@@ -3,15 +3,13 @@ use Prim.Native.Nat.{_≤_, _-_}
 use mathlib.Core.Path.{sym, _∙_}
 use native.Mathlib.Omega.{arith}
 use borrow.Author.Needs.{needs}
-use borrow.Author.Tests.{ne-eqb}
-use Rattle.loops.proofs.Search.{Searched, search-start, search-miss}
 use Rattle.rules.specs.Layout.{bookings}
-use Rattle.readings.proofs.Finding.{hasName, lookUp-hit, lookUp-over}
+use Rattle.rules.proofs.Lookup.{NameSearched, lookUp-start, lookUp-hit, lookUp-miss, lookUp-over}
 use Rattle.readings.proofs.booking.find.Statement.{statement}
 use Rattle.readings.proofs.booking.find.Tie as tie
 
 abbrev Inv-loop : tie.InvT-loop
-Inv-loop w name n i₀ i = (i ≤ bookings w) × Searched (hasName w name) (bookings w) i
+Inv-loop w name n i₀ i = (i ≤ bookings w) × NameSearched w name i
 
 abbrev μ-loop : tie.MeasureT-loop
 μ-loop w name n i₀ i = bookings w - i
@@ -20,7 +18,7 @@ how-many-requires : tie.Need-how-many-requires Inv-loop μ-loop
 how-many-requires c κs = search needs
 
 loop-holds : tie.Need-loop-holds Inv-loop μ-loop
-loop-holds c = (search needs, search-start _ _)
+loop-holds c = (search needs, lookUp-start (c .before .before .args .w .now) (c .before .before .args .name))
 
 name-requires : tie.Need-name-requires Inv-loop μ-loop
 name-requires c κs = omega arith
@@ -36,7 +34,9 @@ loop-less c = omega arith
 
 loop-again : tie.Need-loop-again Inv-loop μ-loop
 loop-again c =
-    (omega arith, search-miss _ _ _ (c .before .before .before .loop .inv .1) (omega arith) (ne-eqb _ _ (λ e. c .if1 .left (c .before .name .ensures ∙ e))))
+    let turn = c .before .before .before .loop in
+    let start = c .before .before .before .before .before .before in
+    (omega arith, lookUp-miss (start .args .w .now) (start .args .name) (turn .i) (turn .inv .1) (omega arith) (λ e. c .if1 .left (c .before .name .ensures ∙ e)))
 
 absent : tie.Need-returns-2 Inv-loop μ-loop
 absent c = lookUp-over _ _ _ (c .before .loop .inv .1) (omega arith)

@@ -1,6 +1,6 @@
 -- The state read tells the state word, and its test against 2 computes.
 use borrow.Author.Needs.{needs}
-use Rattle.rules.specs.declared.vote.State.the-variants.{Waiting, Failed, Chit, Unknown}
+use Rattle.rules.specs.declared.vote.State.the-variants.{Waiting, NoChit, Chit, Unknown}
 use Rattle.rows.proofs.States.{state-reads, unknown-chit}
 use Rattle.rows.proofs.record.chit.Statement.{statement}
 use Rattle.rows.proofs.record.chit.Tie as tie
@@ -29,7 +29,7 @@ waiting c =
 
 failed-poll : tie.Need-returns-2
 failed-poll c =
-    rw (state-reads Failed (c .before .before .before .get .ensures) (c .before .before .read-state .ensures) (c .enum-told2 .given .1))
+    rw (state-reads NoChit (c .before .before .before .get .ensures) (c .before .before .read-state .ensures) (c .enum-told2 .given .1))
 
 is-chit : tie.Need-returns-3
 is-chit c =

@@ -30,7 +30,10 @@ get-requires-3 c κs = search needs
 
 returns : tie.Need-returns
 unfolding genesisGood
-returns c = cc
+returns c =
+    let P = c .before .before in
+    let N = P .before .before .before .before .before in
+    simp (N .name .ensures, P .before .before .before .before .get .ensures, P .before .before .before .parent .ensures, P .before .before .parent2 .ensures, P .before .parent3 .ensures, P .parent4 .ensures, c .before .get2 .ensures, c .get3 .ensures)
 
 pub genesis-good-spec : {M : Type 1} → statement M
 genesis-good-spec =

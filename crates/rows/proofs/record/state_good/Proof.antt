@@ -2,7 +2,7 @@
 use borrow.Author.Tests.{lt-leb}
 use borrow.Author.Needs.{needs}
 use Rattle.rules.specs.IsSound.{stateGood}
-use Rattle.rules.specs.declared.vote.State.the-variants.{Waiting, Failed, Chit, Unknown}
+use Rattle.rules.specs.declared.vote.State.the-variants.{Waiting, NoChit, Chit, Unknown}
 use Rattle.rows.proofs.States.{state-reads}
 use Rattle.rows.proofs.record.state_good.Statement.{statement}
 use Rattle.rows.proofs.record.state_good.Tie as tie
@@ -41,7 +41,7 @@ failed-poll : tie.Need-returns-2
 unfolding stateGood
 failed-poll c =
     let S = c .before .before .before in
-    rw (state-reads Failed (S .get2 .ensures) (c .before .before .read-state .ensures) (c .enum-told2 .given .1), S .before .before .get .ensures, S .before .head .ensures)
+    rw (state-reads NoChit (S .get2 .ensures) (c .before .before .read-state .ensures) (c .enum-told2 .given .1), S .before .before .get .ensures, S .before .head .ensures)
 
 chit : tie.Need-returns-3
 unfolding stateGood

@@ -16,7 +16,8 @@ get-entry-requires-4 : tie.Need-get-entry-requires-4
 get-entry-requires-4 c κs = search needs
 
 returns : tie.Need-returns
-returns c = cc
+returns c =
+    simp (c .before .before .before .get-entry .ensures, c .before .before .get-entry2 .ensures, c .before .get-entry3 .ensures, c .get-entry4 .ensures)
 
 pub entry-empty-spec : {M : Type 1} → statement M
 entry-empty-spec =

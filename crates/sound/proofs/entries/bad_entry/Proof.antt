@@ -14,10 +14,10 @@ use Rattle.sound.proofs.entries.bad_entry.Statement.{statement}
 use Rattle.sound.proofs.entries.bad_entry.Tie as tie
 
 abbrev Inv-loop : tie.InvT-loop
-Inv-loop w n most held s₀ s = (s ≤ slots) × Searched (λ t. not (slotGood w t)) slots s
+Inv-loop w n limit held s₀ s = (s ≤ slots) × Searched (λ t. not (slotGood w t)) slots s
 
 abbrev μ-loop : tie.MeasureT-loop
-μ-loop w n most held s₀ s = slots - s
+μ-loop w n limit held s₀ s = slots - s
 
 loop-holds : tie.Need-loop-holds Inv-loop μ-loop
 loop-holds c = (omega arith, search-start _ _)

@@ -1,10 +1,7 @@
 -- The table is that of the records below i.
 use Prim.Native.Nat.{_≤_, _-_}
-use mathlib.Core.Path.{_≡_, sym, ap, _∙_}
+use mathlib.Core.Path.{_≡_, sym, _∙_}
 use native.Mathlib.Omega.{arith}
-use lib.ListN.{length}
-use borrow.Author.Needs.{needs}
-use Rattle.rules.specs.Layout.{slotOf}
 use Rattle.sound.specs.Held.{heldBelow}
 use Rattle.sound.proofs.Counts.{heldBelow-length, heldBelow-more, heldBelow-le}
 use Rattle.sound.proofs.held.count_all.Statement.{statement}
@@ -19,17 +16,14 @@ abbrev μ-loop : tie.MeasureT-loop
 loop-holds : tie.Need-loop-holds Inv-loop μ-loop
 loop-holds c = (omega arith, c .before .before .pre .2)
 
-get-requires : tie.Need-get-requires Inv-loop μ-loop
-get-requires c κs = omega arith
-
-wide-requires : tie.Need-wide-requires Inv-loop μ-loop
-wide-requires c κs = search needs
+word-requires : tie.Need-word-requires Inv-loop μ-loop
+word-requires c κs = omega arith
 
 count-requires : tie.Need-count-requires Inv-loop μ-loop
 count-requires c κs =
-    let L = c .before .before .before .before .loop in
-    let w = c .before .before .before .before .before .before .before .args .w .now in
-    (rw (L .inv .1) (heldBelow-length w (L .i)), rw (L .inv .1) (omega (arith, heldBelow-le w (L .i) (c .before .wide .result))))
+    let L = c .before .before .before .loop in
+    let w = c .before .before .before .before .before .before .args .w .now in
+    (rw (L .inv .1) (heldBelow-length w (L .i)), rw (L .inv .1) (omega (arith, heldBelow-le w (L .i) (c .before .word .result))))
 
 add-i : tie.Need-add-i Inv-loop μ-loop
 add-i c = omega arith
@@ -40,8 +34,8 @@ loop-less c = omega arith
 loop-again : tie.Need-loop-again Inv-loop μ-loop
 loop-again c =
     let C = c .before .before in
-    let L = C .before .before .before .before .before .loop in
-    (omega arith, rw (heldBelow-more, ← L .inv .1, ← C .before .before .before .get .ensures, ← C .before .before .wide .ensures .0) (C .count .ensures))
+    let L = C .before .before .before .before .loop in
+    (omega arith, rw (heldBelow-more, ← L .inv .1, ← C .before .before .word .ensures) (C .count .ensures))
 
 same-length : tie.Need-same-length Inv-loop μ-loop
 same-length c =
@@ -62,8 +56,7 @@ count-all-spec =
     Inv-loop
     μ-loop
     loop-holds
-    get-requires
-    wide-requires
+    word-requires
     count-requires
     add-i
     loop-less

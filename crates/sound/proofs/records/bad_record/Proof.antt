@@ -3,7 +3,6 @@ use Prim.Native.Nat.{_≤_, _-_}
 use mathlib.Core.Path.{_≡_, sym, ap, _∙_}
 use mathlib.Core.Bool.{not}
 use native.Mathlib.Omega.{arith}
-use borrow.Author.Needs.{needs}
 use borrow.Author.Tests.{not-true, not-false}
 use Rattle.loops.proofs.Search.{Searched, search-start, search-hit, search-miss, search-over}
 use Rattle.rules.specs.IsSound.{recordGood}
@@ -13,40 +12,37 @@ use Rattle.sound.proofs.records.bad_record.Statement.{statement}
 use Rattle.sound.proofs.records.bad_record.Tie as tie
 
 abbrev Inv-loop : tie.InvT-loop
-Inv-loop w n most marks₀ i₀ marks i = (i ≤ n) × (marks ≡ ordinalsBelow w i) × Searched (λ j. not (recordGood w j)) n i
+Inv-loop w n limit marks₀ i₀ marks i = (i ≤ n) × (marks ≡ ordinalsBelow w i) × Searched (λ j. not (recordGood w j)) n i
 
 abbrev μ-loop : tie.MeasureT-loop
-μ-loop w n most marks₀ i₀ marks i = n - i
+μ-loop w n limit marks₀ i₀ marks i = n - i
 
 loop-holds : tie.Need-loop-holds Inv-loop μ-loop
-loop-holds c = (omega arith, c .before .before .pre .0 .2, search-start _ _)
+loop-holds c = (omega arith, c .before .before .pre .1 .lower, search-start _ _)
 
 record-good-requires : tie.Need-record-good-requires Inv-loop μ-loop
 record-good-requires c κs =
     let S = c .before .before .before .before .before in
-    ((S .pre .0 .0 .whole, omega arith, S .pre .0 .1, c .before .before .loop .inv .1), S .pre .1)
+    (record { whole = S .pre .0 .whole; within = omega arith; polled = S .pre .1 .polled; lower = c .before .before .loop .inv .1 }, S .pre .2)
 
 same-length : tie.Need-same-length Inv-loop μ-loop
 same-length c =
     let L = c .before .before .before .before in
     let S = L .before .before .before in
     let w = S .args .w .now in
-    rw (L .loop .inv .1, S .pre .0 .2) (ordinalsBelow-length w (L .loop .i) ∙ sym (ordinalsBelow-length w 0))
+    rw (L .loop .inv .1, S .pre .1 .lower) (ordinalsBelow-length w (L .loop .i) ∙ sym (ordinalsBelow-length w 0))
 
 bad : tie.Need-returns Inv-loop μ-loop
 bad c =
     let L = c .before .before .before .before .loop in
     (sym (search-hit _ _ _ (L .inv .2) (omega arith) (ap not (sym (c .before .record-good .ensures) ∙ not-true _ (c .if1 .taken)))), L .inv .1)
 
-get-requires : tie.Need-get-requires Inv-loop μ-loop
-get-requires c κs = omega arith
-
-wide-requires : tie.Need-wide-requires Inv-loop μ-loop
-wide-requires c κs = search needs
+word-requires : tie.Need-word-requires Inv-loop μ-loop
+word-requires c κs = omega arith
 
 mark-requires : tie.Need-mark-requires Inv-loop μ-loop
 mark-requires c κs =
-    let L = c .before .before .before .before .before .before .before in
+    let L = c .before .before .before .before .before .before in
     rw (L .loop .inv .1) (ordinalsBelow-length (L .before .before .before .args .w .now) (L .loop .i))
 
 add-i : tie.Need-add-i Inv-loop μ-loop
@@ -58,15 +54,15 @@ loop-less c = omega arith
 loop-again : tie.Need-loop-again Inv-loop μ-loop
 loop-again c =
     let M = c .before .before in
-    let G = M .before .before .before .before .before in
+    let G = M .before .before .before .before in
     let L = G .before .before .before .loop in
-    (omega arith, rw (ordinalsBelow-more, ← L .inv .1, ← M .before .before .before .get .ensures, ← M .before .before .wide .ensures .0) (M .mark .ensures), search-miss _ _ _ (L .inv .2) (omega arith) (ap not (sym (G .record-good .ensures) ∙ not-false _ (M .before .before .before .before .if1 .left))))
+    (omega arith, rw (ordinalsBelow-more, ← L .inv .1, ← M .before .before .word .ensures) (M .mark .ensures), search-miss _ _ _ (L .inv .2) (omega arith) (ap not (sym (G .record-good .ensures) ∙ not-false _ (M .before .before .before .if1 .left))))
 
 same-length-2 : tie.Need-same-length-2 Inv-loop μ-loop
 same-length-2 c =
     let S = c .before .before .before .before in
     let w = S .args .w .now in
-    rw (c .before .loop .inv .1, S .pre .0 .2) (ordinalsBelow-length w (c .before .loop .i) ∙ sym (ordinalsBelow-length w 0))
+    rw (c .before .loop .inv .1, S .pre .1 .lower) (ordinalsBelow-length w (c .before .loop .i) ∙ sym (ordinalsBelow-length w 0))
 
 all-good : tie.Need-returns-2 Inv-loop μ-loop
 all-good c =
@@ -84,8 +80,7 @@ bad-record-spec =
     record-good-requires
     same-length
     bad
-    get-requires
-    wide-requires
+    word-requires
     mark-requires
     add-i
     loop-less

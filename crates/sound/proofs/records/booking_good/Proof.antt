@@ -4,17 +4,11 @@ use borrow.Author.Needs.{needs}
 use Rattle.sound.proofs.records.booking_good.Statement.{statement}
 use Rattle.sound.proofs.records.booking_good.Tie as tie
 
-get-requires : tie.Need-get-requires
-get-requires c κs = search needs
+word-requires : tie.Need-word-requires
+word-requires c κs = search needs
 
-wide-requires : tie.Need-wide-requires
-wide-requires c κs = search needs
-
-get-requires-2 : tie.Need-get-requires-2
-get-requires-2 c κs = search needs
-
-wide-requires-2 : tie.Need-wide-requires-2
-wide-requires-2 c κs = search needs
+word-requires-2 : tie.Need-word-requires-2
+word-requires-2 c κs = search needs
 
 name-new-requires : tie.Need-name-new-requires
 name-new-requires c κs = search needs
@@ -27,23 +21,21 @@ state-good-requires c κs = search needs
 
 is-marked-requires : tie.Need-is-marked-requires
 is-marked-requires c κs =
-    let S = c .before .before .before .before .before .before .before .before .before in
-    rw (S .pre .3) (ordinalsBelow-length (S .args .w .now) (S .args .i))
+    let S = c .before .before .before .before .before .before .before in
+    rw (S .pre .lower) (ordinalsBelow-length (S .args .w .now) (S .args .i))
 
 returns : tie.Need-returns
 returns c =
     let N = c .before .before .before in
-    let S = N .before .before .before .before .before .before .before in
-    rw (N .name-new .ensures, N .before .before .before .wide .ensures .0, N .before .before .before .before .get .ensures, c .before .before .parents-good .ensures, c .before .state-good .ensures, N .before .wide2 .ensures .0, c .is-marked .ensures, S .pre .3, N .before .wide2 .ensures .0, N .before .before .get2 .ensures) (bookingGood-marked (S .args .w .now) (S .args .i) (S .pre .2))
+    let S = N .before .before .before .before .before in
+    rw (N .name-new .ensures, N .before .before .word .ensures, c .before .before .parents-good .ensures, c .before .state-good .ensures, c .is-marked .ensures, N .before .word2 .ensures, S .pre .lower) (bookingGood-marked (S .args .w .now) (S .args .i) (S .pre .polled))
 
 pub booking-good-spec : {M : Type 1} → statement M
 booking-good-spec =
     tie.close
     (tie.spec
-    get-requires
-    wide-requires
-    get-requires-2
-    wide-requires-2
+    word-requires
+    word-requires-2
     name-new-requires
     parents-good-requires
     state-good-requires

@@ -1,11 +1,10 @@
 -- What is found so far is the count of the chits below i.
-use Prim.Native.Nat.{_≤_, _-_}
-use mathlib.Core.Path.{_≡_, sym, ap, ap₂, _∙_}
+use Prim.Native.Nat.{ℕ, _≤_, _-_}
+use mathlib.Core.Path.{_≡_, sym, ap, _∙_}
 use mathlib.Core.Bool.{Bool}
 use mathlib.Core.List.{List}
 use native.Mathlib.Omega.{arith}
 use lib.Dec.{eqb}
-use Prim.Native.Nat.{ℕ, _+_}
 use Rattle.loops.specs.Total.{count}
 use Rattle.loops.proofs.Total.{total-zero, total-more, count-le, bit-le}
 use Rattle.rules.specs.Layout.{stateOf}

@@ -2,6 +2,7 @@
 use mathlib.Core.Path.{_≡_, sym, _∙_}
 use mathlib.Core.Bool.{true}
 use borrow.Author.Tests.{eq-eqb, ne-eqb}
+use native.Mathlib.Omega.{arith}
 use borrow.Author.Needs.{needs}
 use Rattle.loops.specs.Search.{all}
 use Rattle.rules.specs.Layout.{bookings}
@@ -22,7 +23,7 @@ slice-aggregate-bad-record c = search needs
 bad-record-requires : tie.Need-bad-record-requires
 bad-record-requires c κs =
     let S = c .before .before .before .before in
-    ((S .pre .0, S .pre .1, sym (ordinalsBelow-zero (S .args .w .now))), S .pre .2)
+    (S .pre .0, record { whole = S .pre .0 .whole; within = omega arith; polled = S .pre .1; lower = sym (ordinalsBelow-zero (S .args .w .now)) }, S .pre .2)
 
 slice-aggregate-all-marked : tie.Need-slice-aggregate-all-marked
 slice-aggregate-all-marked c = search needs

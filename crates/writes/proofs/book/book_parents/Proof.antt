@@ -4,19 +4,25 @@ use mathlib.Core.Bool.{false}
 use mathlib.Core.List.{List}
 use Prim.Native.Nat.{ℕ}
 use borrow.Author.Needs.{needs}
-use Rattle.rules.specs.Book.{hasUnknown, hasTwice}
+use Rattle.rules.specs.Book.{hasUnknown}
 use Rattle.booking.specs.Numbered.{parentNumbers}
 use Rattle.booking.proofs.Numbers.{bookedWith-numbers}
-use Rattle.writes.proofs.Parents.{withNumbers-all, firstUnknown-none, looked-taken, looked-refused}
-use Rattle.writes.proofs.Booked.{parents-unknown, parents-twice, parents-full, parents-taken}
+use Rattle.writes.proofs.Parents.{withNumbers-all, firstUnknown-none, looked-refusal, looked-unknown}
+use Rattle.writes.proofs.Booked.{parents-unknown, parents-twice, parents-full, parents-taken, not-full}
 use Rattle.writes.proofs.book.book_parents.Statement.{statement}
 use Rattle.writes.proofs.book.book_parents.Tie as tie
 
--- ---- where each parent is known
+-- ---- where all that the refusals ask was asked
 
-module _ (K : tie.After-enum-told) where
+module _ (J : tie.After-how-many) where
+  abbrev asked : tie.After-is-refusal
+  asked = J .before .before .before
+
+  abbrev looked : tie.After-look-parents
+  looked = asked .before
+
   abbrev start : tie.Start
-  start = K .before .before .before .before .before .before .before
+  start = looked .before .before .before .before .before
 
   abbrev w : List ℕ
   w = start .args .w .now
@@ -24,50 +30,42 @@ module _ (K : tie.After-enum-told) where
   abbrev parents : List ℕ
   parents = start .args .parents .now
 
-  known : hasUnknown w parents ≡ false
-  known = looked-taken _ (K .before .before .look-parents .ensures .answer) (K .enum-told .given .1)
+  unknown-is : asked .is-refusal .result ≡ hasUnknown w parents
+  unknown-is = asked .is-refusal .ensures ∙ looked-refusal (looked .look-parents .ensures)
 
-  numbered : K .before .before .look-parents .last .1 .1 .0 ≡ parentNumbers w parents
-  numbered = K .before .before .look-parents .ensures .after ∙ rw (firstUnknown-none w parents known) (withNumbers-all w parents (start .pre .2))
-
--- ---- where none is named twice
-
-once : (J : tie.Else1) → hasTwice (parents (J .before .before)) ≡ false
-once J = sym (J .before .has-twice .ensures) ∙ J .if1 .left
+  numbered : hasUnknown w parents ≡ false → looked .look-parents .last .1 .1 .0 ≡ parentNumbers w parents
+  numbered known = looked .look-parents .ensures .after ∙ rw (firstUnknown-none w parents known) (withNumbers-all w parents (start .pre .2))
 
 -- ---- the needs
 
 look-parents-requires : tie.Need-look-parents-requires
 look-parents-requires c κs = search needs
 
-enum-told : tie.Need-enum-told
-enum-told c = search needs
+is-refusal-requires : tie.Need-is-refusal-requires
+is-refusal-requires c κs = search needs
 
-enum-told-2 : tie.Need-enum-told-2
-enum-told-2 c = search needs
+has-twice-requires : tie.Need-has-twice-requires
+has-twice-requires c κs = search needs
+
+how-many-requires : tie.Need-how-many-requires
+how-many-requires c κs = search needs
 
 same-length : tie.Need-same-length
 same-length c = search needs
 
-unknown : tie.Need-returns
-unknown c =
-    let L = c .before .before in
-    let u = looked-refused _ (L .look-parents .ensures .answer) (c .enum-told2 .given .1) in
-    rw (u .1) (parents-unknown _ _ _ _ (u .0))
-
-has-twice-requires : tie.Need-has-twice-requires
-has-twice-requires c κs = search needs
+unknown-parent : tie.Need-returns
+unknown-parent c =
+    let J = c .before in
+    let u = sym (unknown-is J) ∙ c .if1 .taken in
+    rw (looked-unknown (looked J .look-parents .ensures) u) (parents-unknown _ _ _ _ u)
 
 same-length-2 : tie.Need-same-length-2
 same-length-2 c = search needs
 
 named-twice : tie.Need-returns-2
 named-twice c =
-    let K = c .before .before in
-    parents-twice _ _ _ _ (known K) (sym (c .before .has-twice .ensures) ∙ c .if1 .taken)
-
-how-many-requires : tie.Need-how-many-requires
-how-many-requires c κs = search needs
+    let J = c .before .before in
+    parents-twice _ _ _ _ (sym (unknown-is J) ∙ c .before .if1 .left) (sym (J .before .before .has-twice .ensures) ∙ c .if2 .taken)
 
 same-length-3 : tie.Need-same-length-3
 same-length-3 c = search needs
@@ -75,35 +73,40 @@ same-length-3 c = search needs
 full : tie.Need-returns-3
 full c =
     let J = c .before .before .before in
-    let K = J .before .before in
-    parents-full _ _ _ _ (known K) (once J) (sym (c .before .how-many .ensures) ∙ c .if2 .taken)
+    parents-full _ _ _ _
+    (sym (unknown-is J) ∙ c .before .before .if1 .left)
+    (sym (J .before .before .has-twice .ensures) ∙ c .before .if2 .left)
+    (rw (J .how-many .ensures) at (c .if3 .taken))
 
 write-booking-requires : tie.Need-write-booking-requires
-write-booking-requires c κs = search needs
+write-booking-requires c κs =
+    let G = c .before .before in
+    let J = G .before .before .before in
+    (start J .pre .0, not-full _ (start J .pre .0 .sound .bookingsMost) (rw (J .how-many .ensures) at (G .if3 .left)), start J .pre .1)
 
 same-length-4 : tie.Need-same-length-4
 same-length-4 c = search needs
 
 taken : tie.Need-returns-4
 taken c =
-    let M = c .before .before .before .before .before in
-    let J = M .before .before .before in
-    let K = J .before .before in
-    rw (c .before .before .write-booking .ensures, numbered K, bookedWith-numbers) (parents-taken _ _ _ _ (known K) (once J) (λ q. M .if2 .left (M .before .how-many .ensures ∙ q)))
+    let G = c .before .before .before .before .before in
+    let J = G .before .before .before in
+    let known = sym (unknown-is J) ∙ G .before .before .if1 .left in
+    rw (c .before .before .write-booking .ensures, numbered J known, bookedWith-numbers)
+    (parents-taken _ _ _ _ known (sym (J .before .before .has-twice .ensures) ∙ G .before .if2 .left) (rw (J .how-many .ensures) at (G .if3 .left)))
 
 pub book-parents-spec : {M : Type 1} → statement M
 book-parents-spec =
     tie.close
     (tie.spec
     look-parents-requires
-    enum-told
-    enum-told-2
-    same-length
-    unknown
+    is-refusal-requires
     has-twice-requires
+    how-many-requires
+    same-length
+    unknown-parent
     same-length-2
     named-twice
-    how-many-requires
     same-length-3
     full
     write-booking-requires

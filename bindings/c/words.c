@@ -1,0 +1,109 @@
+/*
+ * Where each word stands: after the run below, and after refused calls, every word of the workspace is the one worked out
+ * by hand, at the place that the header names. Prints nothing and ends with 0 if that is so.
+ */
+#include "filzhammer.h"
+
+#include <stdio.h>
+
+/* The words that the calls write, and those expected. */
+static uint16_t ws[FILZ_WORDS];
+static uint16_t expected[FILZ_WORDS];
+
+static void expect_header(uint16_t n, uint16_t k, uint16_t a, uint16_t beta1, uint16_t beta2, uint16_t p)
+{
+    expected[FILZ_HEADER_N] = n;
+    expected[FILZ_HEADER_K] = k;
+    expected[FILZ_HEADER_A] = a;
+    expected[FILZ_HEADER_BETA1] = beta1;
+    expected[FILZ_HEADER_BETA2] = beta2;
+    expected[FILZ_HEADER_P] = p;
+}
+
+/* A booking whose name fits one word, with at most two parents. */
+static void expect_record(size_t number, uint16_t name, uint16_t slot, uint16_t first, uint16_t second, uint16_t state,
+                          uint16_t confidence, uint16_t ordinal)
+{
+    uint16_t *record = expected + FILZ_RECORDS_START + FILZ_RECORD_WORDS * number;
+    record[FILZ_RECORD_NAME + 3] = name;
+    record[FILZ_RECORD_SLOT] = slot;
+    record[FILZ_RECORD_PARENTS] = first;
+    record[FILZ_RECORD_PARENTS + 1] = second;
+    record[FILZ_RECORD_PARENTS + 2] = FILZ_NONE;
+    record[FILZ_RECORD_PARENTS + 3] = FILZ_NONE;
+    record[FILZ_RECORD_STATE] = state;
+    record[FILZ_RECORD_CONFIDENCE] = confidence;
+    record[FILZ_RECORD_ORDINAL] = ordinal;
+}
+
+static void expect_entry(size_t slot, uint16_t preferred, uint16_t last, uint16_t counter, uint16_t bookings)
+{
+    uint16_t *entry = expected + FILZ_SLOTS_START + FILZ_SLOT_WORDS * slot;
+    entry[FILZ_SLOT_PREFERRED] = preferred;
+    entry[FILZ_SLOT_LAST] = last;
+    entry[FILZ_SLOT_COUNTER] = counter;
+    entry[FILZ_SLOT_BOOKINGS] = bookings;
+}
+
+/* One opening, four bookings and four polls: the sum of their numbers, which is 0 if all are taken. */
+static uint32_t run(void)
+{
+    const uint64_t genesis[1] = {0}, one[1] = {1}, both[2] = {1, 2};
+    const uint8_t two[3] = {FILZ_YES, FILZ_YES, FILZ_NO}, few[3] = {FILZ_YES, FILZ_SILENT, FILZ_SILENT};
+    const uint8_t all[3] = {FILZ_YES, FILZ_YES, FILZ_YES}, most[3] = {FILZ_YES, FILZ_YES, FILZ_SILENT};
+    int64_t value;
+    uint32_t sum = filz_open(ws, FILZ_WORDS, 3, 2, 1, 2, &value);
+    sum += filz_book(ws, FILZ_WORDS, 1, 7, genesis, 1, &value);
+    sum += filz_book(ws, FILZ_WORDS, 2, 7, genesis, 1, &value);
+    sum += filz_book(ws, FILZ_WORDS, 3, 9, one, 1, &value);
+    sum += filz_book(ws, FILZ_WORDS, 4, 10, both, 2, &value);
+    sum += filz_poll(ws, FILZ_WORDS, 2, two, 3, &value);
+    sum += filz_poll(ws, FILZ_WORDS, 3, few, 3, &value);
+    sum += filz_poll(ws, FILZ_WORDS, 4, all, 3, &value);
+    sum += filz_poll(ws, FILZ_WORDS, 1, most, 3, &value);
+    return sum;
+}
+
+/* A refused call of each kind, none of which may change a word: 0 if their numbers are right and their values 0. */
+static int refused(void)
+{
+    const uint64_t unknown[1] = {9};
+    const uint8_t votes[3] = {FILZ_YES, FILZ_YES, FILZ_YES};
+    int64_t open_value = 77, book_value = 77, poll_value = 77, lead_value = 77;
+    return filz_open(ws, FILZ_WORDS, 2, 1, 1, 2, &open_value) != FILZ_BAD_SETTING || open_value != 0
+        || filz_book(ws, FILZ_WORDS, 5, 9, unknown, 1, &book_value) != FILZ_UNKNOWN_PARENT || book_value != 0
+        || filz_poll(ws, FILZ_WORDS, 1, votes, 3, &poll_value) != FILZ_NOT_WAITING || poll_value != 0
+        || filz_lead(ws, FILZ_WORDS, 9, &lead_value) != FILZ_UNKNOWN_NAME || lead_value != 0;
+}
+
+int main(void)
+{
+    expect_header(5, 3, 2, 1, 2, 4);
+    expect_record(0, 0, 0, FILZ_NONE, FILZ_NONE, 1, 3, 0);
+    expect_record(1, 1, 7, 0, FILZ_NONE, 2, 2, 4);
+    expect_record(2, 2, 7, 0, FILZ_NONE, 2, 2, 1);
+    expect_record(3, 3, 9, 1, FILZ_NONE, 1, 0, 2);
+    expect_record(4, 4, 10, 1, 2, 2, 1, 3);
+    for (size_t slot = 0; slot < FILZ_SLOTS; slot++)
+        expect_entry(slot, FILZ_NONE, FILZ_NONE, 0, 0);
+    expect_entry(0, 0, 0, 3, 1);
+    expect_entry(7, 2, 1, 0, 2);
+    expect_entry(9, 3, 3, 0, 1);
+    expect_entry(10, 4, 4, 1, 1);
+
+    if (run() != FILZ_TAKEN) {
+        fprintf(stderr, "a call was refused\n");
+        return 1;
+    }
+    if (refused() != 0) {
+        fprintf(stderr, "a refused call has another number or value\n");
+        return 1;
+    }
+    for (size_t place = 0; place < FILZ_WORDS; place++) {
+        if (ws[place] != expected[place]) {
+            fprintf(stderr, "word %zu is %u, expected %u\n", place, (unsigned)ws[place], (unsigned)expected[place]);
+            return 1;
+        }
+    }
+    return 0;
+}

@@ -1,0 +1,110 @@
+//! The C functions of `include/filzhammer.h` behind safe ones. All that is unsafe stands here.
+//!
+//! Each pointer and length below comes of one slice, so it leads to that many elements, is aligned and never null; `&mut`
+//! keeps what is written apart from all that is read. That is all the header asks of a caller.
+use crate::Refusal;
+
+type Reading = unsafe extern "C" fn(*const u16, usize, u64, *mut i64) -> u32;
+
+extern "C" {
+    fn filz_open(
+        ws: *mut u16,
+        words: usize,
+        k: u16,
+        a: u16,
+        beta1: u16,
+        beta2: u16,
+        value: *mut i64,
+    ) -> u32;
+    fn filz_book(
+        ws: *mut u16,
+        words: usize,
+        name: u64,
+        slot: u16,
+        parents: *const u64,
+        count: usize,
+        value: *mut i64,
+    ) -> u32;
+    fn filz_poll(
+        ws: *mut u16,
+        words: usize,
+        name: u64,
+        votes: *const u8,
+        count: usize,
+        value: *mut i64,
+    ) -> u32;
+    fn filz_query(ws: *const u16, words: usize, name: u64, value: *mut i64) -> u32;
+    fn filz_accepted(ws: *const u16, words: usize, name: u64, value: *mut i64) -> u32;
+    fn filz_lead(ws: *const u16, words: usize, name: u64, value: *mut i64) -> u32;
+    fn filz_confidence(ws: *const u16, words: usize, name: u64, value: *mut i64) -> u32;
+    fn filz_size(ws: *const u16, words: usize, name: u64, value: *mut i64) -> u32;
+}
+
+/// A call that writes its value through the pointer: the value if it is taken, else the refusal.
+fn ask(call: impl FnOnce(*mut i64) -> u32) -> Result<i64, Refusal> {
+    let mut value = 0;
+    match call(&mut value) {
+        0 => Ok(value),
+        // The library is proved to return no number above 13.
+        number => Err(Refusal::from_number(number).expect("a number from 0 to 13")),
+    }
+}
+
+fn read(reading: Reading, ws: &[u16], name: u64) -> Result<i64, Refusal> {
+    // SAFETY: see the top of this file.
+    ask(|value| unsafe { reading(ws.as_ptr(), ws.len(), name, value) })
+}
+
+pub fn open(ws: &mut [u16], k: u16, a: u16, beta1: u16, beta2: u16) -> Result<i64, Refusal> {
+    // SAFETY: see the top of this file.
+    ask(|value| unsafe { filz_open(ws.as_mut_ptr(), ws.len(), k, a, beta1, beta2, value) })
+}
+
+pub fn book(ws: &mut [u16], name: u64, slot: u16, parents: &[u64]) -> Result<i64, Refusal> {
+    // SAFETY: see the top of this file.
+    ask(|value| unsafe {
+        filz_book(
+            ws.as_mut_ptr(),
+            ws.len(),
+            name,
+            slot,
+            parents.as_ptr(),
+            parents.len(),
+            value,
+        )
+    })
+}
+
+pub fn poll(ws: &mut [u16], name: u64, votes: &[u8]) -> Result<i64, Refusal> {
+    // SAFETY: see the top of this file.
+    ask(|value| unsafe {
+        filz_poll(
+            ws.as_mut_ptr(),
+            ws.len(),
+            name,
+            votes.as_ptr(),
+            votes.len(),
+            value,
+        )
+    })
+}
+
+pub fn query(ws: &[u16], name: u64) -> Result<i64, Refusal> {
+    read(filz_query, ws, name)
+}
+
+pub fn accepted(ws: &[u16], name: u64) -> Result<i64, Refusal> {
+    read(filz_accepted, ws, name)
+}
+
+pub fn lead(ws: &[u16], name: u64) -> Result<i64, Refusal> {
+    read(filz_lead, ws, name)
+}
+
+pub fn confidence(ws: &[u16], name: u64) -> Result<i64, Refusal> {
+    read(filz_confidence, ws, name)
+}
+
+pub fn size(ws: &[u16], name: u64) -> Result<i64, Refusal> {
+    read(filz_size, ws, name)
+}

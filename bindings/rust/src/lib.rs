@@ -1,0 +1,145 @@
+//! A ledger of bookings that compete for slots, by the votes of a network of stations.
+//!
+//! A caller lends [`WORDS`] words of 16 bits. [`open`] makes them a ledger, [`book`] enters a booking, [`poll`] enters the
+//! votes of a completed poll, and the readings [`query`], [`accepted`], [`lead`], [`confidence`] and [`size`] answer by name.
+//! Nothing is allocated and nothing is kept outside the lent words: copy them, store them, or have as many ledgers as you like.
+//!
+//! ```
+//! use filzhammer::{accepted, book, open, poll, query, Refusal, Setting, WORDS, YES};
+//!
+//! let mut ledger = [0u16; WORDS];
+//! open(&mut ledger, Setting { k: 1, a: 1, beta1: 1, beta2: 2 })?;
+//! book(&mut ledger, 1, 7, &[0])?; // name 1, slot 7, on the genesis
+//! book(&mut ledger, 2, 8, &[1])?;
+//! poll(&mut ledger, 1, &[YES])?;
+//! assert_eq!(accepted(&ledger, 1), Ok(0)); // one success is not above beta1
+//! poll(&mut ledger, 2, &[YES])?; // which also speaks for 1
+//! assert_eq!(accepted(&ledger, 1), Ok(1));
+//! assert_eq!(query(&ledger, 3), Err(Refusal::UnknownName));
+//! # Ok::<(), Refusal>(())
+//! ```
+//!
+//! # What is guaranteed
+//!
+//! The library behind these functions is proved against its rules. In short:
+//!
+//! 1. **Every call ends in an answer, and a refused call leaves no trace.** Any words and any arguments may be passed; nothing
+//!    has to be tested first, and no call panics. Which refusal is given is settled for every input: the first of the call's
+//!    list that applies. Then no word has changed. Whatever a taken call leaves is again a sound ledger.
+//! 2. **Answers and words are those of the rules, to the last word.** The rules say what an ancestry is (the booking and
+//!    everything reached through parents, each once), when a poll succeeds and what it writes, what a query answers and
+//!    when a booking is accepted. For the same words and arguments there is one possible outcome, and it is this one. Of the
+//!    bookings of a slot never more than one is accepted at a time.
+//! 3. **Confidence is earned.** Over every run since the last taken opening, whatever calls came in whatever order: a booking's
+//!    confidence is the number of successful polls of bookings that have it in their ancestry; all confidences together are the
+//!    sum of those ancestries' sizes; and no booking has more confidence than the preferred one of its slot.
+//!
+//! What the proofs do not cover is this crate's own few lines, which pass slices on and turn numbers into [`Refusal`]; they are
+//! tested. And a ledger is as good as its words: while another program can write there, soundness is tested again at every call,
+//! but damage that happens to look like a ledger is taken for one.
+#![no_std]
+#![warn(missing_docs)]
+
+mod face;
+mod refusal;
+
+pub use refusal::Refusal;
+
+/// How many words a workspace has.
+pub const WORDS: usize = 7176;
+
+/// How many bookings a ledger holds, with the genesis.
+pub const BOOKINGS: usize = 512;
+
+/// The vote of a station that prefers the booking and its whole ancestry.
+pub const YES: u8 = 1;
+
+/// The vote against: the signed byte −1.
+pub const NO: u8 = 255;
+
+/// No answer came. It counts neither way, so it helps a poll no more than [`NO`] does.
+pub const SILENT: u8 = 0;
+
+/// The setting of a ledger. It is good if 1 ≤ k ≤ 64, a ≤ k < 2 × a, and 1 ≤ beta1 ≤ beta2 ≤ 510.
+#[derive(Clone, Copy, Debug, PartialEq, Eq)]
+pub struct Setting {
+    /// How many votes a poll has.
+    pub k: u16,
+    /// How many of them must be yes.
+    pub a: u16,
+    /// A booking that is alone in its slot and rests on accepted parents is accepted when the slot's counter is above this.
+    pub beta1: u16,
+    /// Any booking that is preferred and last in its slot is accepted when the slot's counter is above this.
+    pub beta2: u16,
+}
+
+impl Setting {
+    /// The setting of the paper that the rules come from.
+    pub const PAPER: Setting = Setting {
+        k: 10,
+        a: 8,
+        beta1: 11,
+        beta2: 150,
+    };
+}
+
+/// Makes the words a ledger that has only the genesis: name 0 in slot 0, accepted. Whatever they held before is gone.
+///
+/// Refuses [`WrongLength`](Refusal::WrongLength), [`BadSetting`](Refusal::BadSetting), in this order.
+pub fn open(ws: &mut [u16], setting: Setting) -> Result<(), Refusal> {
+    let Setting { k, a, beta1, beta2 } = setting;
+    face::open(ws, k, a, beta1, beta2).map(drop)
+}
+
+/// Books `name` for `slot` on one to four parents, given by their names. It waits for its poll, with confidence 0, and is
+/// preferred if the slot was empty.
+///
+/// Refuses [`WrongLength`](Refusal::WrongLength), [`NotSound`](Refusal::NotSound), [`NameTaken`](Refusal::NameTaken),
+/// [`BadSlot`](Refusal::BadSlot), [`BadParents`](Refusal::BadParents), [`UnknownParent`](Refusal::UnknownParent),
+/// [`ParentTwice`](Refusal::ParentTwice), [`Full`](Refusal::Full), in this order.
+pub fn book(ws: &mut [u16], name: u64, slot: u16, parents: &[u64]) -> Result<(), Refusal> {
+    face::book(ws, name, slot, parents).map(drop)
+}
+
+/// Enters the votes of a completed poll of a waiting booking, [`YES`], [`NO`] or [`SILENT`] for each station asked.
+///
+/// With at least `a` yes votes the whole ancestry gains one confidence each, and those that are then strictly ahead of their
+/// slot's preferred booking take its place. With fewer the booking only counts as polled.
+///
+/// Refuses [`WrongLength`](Refusal::WrongLength), [`NotSound`](Refusal::NotSound), [`UnknownName`](Refusal::UnknownName),
+/// [`NotWaiting`](Refusal::NotWaiting), [`WrongVotes`](Refusal::WrongVotes), [`BadVote`](Refusal::BadVote), in this order.
+pub fn poll(ws: &mut [u16], name: u64, votes: &[u8]) -> Result<(), Refusal> {
+    face::poll(ws, name, votes).map(drop)
+}
+
+/// 1 if every member of the booking's ancestry is preferred in its slot, else 0. It is how this station votes.
+///
+/// Refuses [`WrongLength`](Refusal::WrongLength), [`NotSound`](Refusal::NotSound), [`UnknownName`](Refusal::UnknownName), in
+/// this order, as all readings do.
+pub fn query(ws: &[u16], name: u64) -> Result<i64, Refusal> {
+    face::query(ws, name)
+}
+
+/// 1 if the booking is accepted, else 0.
+///
+/// The genesis is. Another booking is if it is alone in its slot, its parents are accepted and the slot's counter is above
+/// `beta1`; or if it is both preferred and last in its slot and the counter is above `beta2`. Refuses as [`query`] does.
+pub fn accepted(ws: &[u16], name: u64) -> Result<i64, Refusal> {
+    face::accepted(ws, name)
+}
+
+/// The booking's confidence, less the greatest confidence among its slot's other bookings, or less 0 if there are none: from
+/// −511 to 511. Refuses as [`query`] does.
+pub fn lead(ws: &[u16], name: u64) -> Result<i64, Refusal> {
+    face::lead(ws, name)
+}
+
+/// The booking's confidence, from 0 to 511. Refuses as [`query`] does.
+pub fn confidence(ws: &[u16], name: u64) -> Result<i64, Refusal> {
+    face::confidence(ws, name)
+}
+
+/// How many members the booking's ancestry has, itself among them: from 1 to 512. Refuses as [`query`] does.
+pub fn size(ws: &[u16], name: u64) -> Result<i64, Refusal> {
+    face::size(ws, name)
+}

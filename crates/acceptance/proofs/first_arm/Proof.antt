@@ -1,0 +1,29 @@
+-- The three tests of the definition, at what the calls ensure.
+use borrow.Author.Needs.{needs}
+use Rattle.acceptance.proofs.first_arm.Statement.{statement}
+use Rattle.acceptance.proofs.first_arm.Tie as tie
+
+parents-accepted-requires : tie.Need-parents-accepted-requires
+parents-accepted-requires c κs = search needs
+
+entry-of-requires : tie.Need-entry-of-requires
+entry-of-requires c κs = search needs
+
+head-requires : tie.Need-head-requires
+head-requires c κs = search needs
+
+entry-of-requires-2 : tie.Need-entry-of-requires-2
+entry-of-requires-2 c κs = search needs
+
+returns : tie.Need-returns
+returns c = cc
+
+pub first-arm-spec : {M : Type 1} → statement M
+first-arm-spec =
+    tie.close
+    (tie.spec
+    parents-accepted-requires
+    entry-of-requires
+    head-requires
+    entry-of-requires-2
+    returns)

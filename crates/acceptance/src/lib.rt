@@ -1,0 +1,110 @@
+// Which bookings are accepted.
+use rules::layout;
+ghost use mathlib.Core.Path.{_≡_};
+ghost use mathlib.Core.Bool.{_||_};
+ghost use Prim.Native.Nat.{_<_, _≤_};
+ghost use lib.Dec.{eqb};
+ghost use lib.ListN.{length};
+ghost use Rattle.loops.specs.Search.{first};
+ghost use Rattle.loops.specs.Turns.{upTo};
+ghost use Rattle.rules.specs.Layout.{size, mostBookings, mostParents, bookings};
+ghost use Rattle.rules.specs.Sound.{Ledger};
+ghost use Rattle.rules.specs.Readings.{parentsAccepted, firstArm, secondArm, acceptOne, acceptedBelow, acceptedOf};
+ghost use Rattle.acceptance.specs.Steps.{unaccepted};
+
+// Whether place a of booking j holds a parent that is not accepted.
+fn is_unaccepted(w: &[u16], m: &[u8], j: usize, a: usize) -> bool
+    requires { ⌜ (length (now w) ≡ size) × (j < mostBookings) × (a < mostParents) ⌝ }
+    ensures { λ r. ⌜ r ≡ unaccepted (now (w .entry)) (now (m .entry)) j a ⌝ }
+{
+    let p = ancestry::parent(w, j, a);
+    !((p == words::wide(layout::NONE)) | ancestry::is_member(m, p))
+}
+
+// The first such place, or how many places there are.
+fn first_unaccepted(w: &[u16], m: &[u8], j: usize) -> usize
+    requires { ⌜ (length (now w) ≡ size) × (j < mostBookings) ⌝ }
+    ensures { λ r. ⌜ r ≡ first (unaccepted (now (w .entry)) (now (m .entry)) j) mostParents ⌝ }
+{
+    for a in 0..layout::MOST_PARENTS {
+        if is_unaccepted(w, m, j, a) {
+            return a;
+        }
+    }
+    layout::MOST_PARENTS
+}
+
+// Whether all parents of booking j are accepted; m has a mark for each accepted booking below j.
+fn parents_accepted(w: &[u16], m: &[u8], j: usize) -> bool
+    requires { ⌜ (length (now w) ≡ size) × (j < mostBookings) ⌝ }
+    ensures { λ r. ⌜ r ≡ parentsAccepted (now (w .entry)) (now (m .entry)) j ⌝ }
+{
+    first_unaccepted(w, m, j) == layout::MOST_PARENTS
+}
+
+// All parents are accepted, the slot has one booking, and its counter is above beta1.
+fn first_arm(w: &[u16], m: &[u8], j: usize) -> bool
+    requires { ⌜ Ledger (now w) × (j < bookings (now w)) ⌝ }
+    ensures { λ r. ⌜ r ≡ firstArm (now (w .entry)) (now (m .entry)) j ⌝ }
+{
+    parents_accepted(w, m, j)
+        & (standing::entry_of(w, j, layout::HELD) == 1)
+        & (words::head(w, layout::BETA1) < standing::entry_of(w, j, layout::COUNTER))
+}
+
+// The booking is both preferred and last in its slot, and the counter is above beta2: only one of two rivals is.
+fn second_arm(w: &[u16], j: usize) -> bool
+    requires { ⌜ Ledger (now w) × (j < bookings (now w)) ⌝ }
+    ensures { λ r. ⌜ r ≡ secondArm (now (w .entry)) j ⌝ }
+{
+    standing::is_preferred(w, j)
+        & standing::is_last(w, j)
+        & (words::head(w, layout::BETA2) < standing::entry_of(w, j, layout::COUNTER))
+}
+
+// The genesis, or by one of the arms.
+fn is_accepted(w: &[u16], m: &[u8], j: usize) -> bool
+    requires { ⌜ Ledger (now w) × (j < bookings (now w)) ⌝ }
+    ensures { λ r. ⌜ r ≡ (eqb j 0 || firstArm (now (w .entry)) (now (m .entry)) j || secondArm (now (w .entry)) j) ⌝ }
+{
+    (j == 0) | first_arm(w, m, j) | second_arm(w, j)
+}
+
+// The marks with j marked too, if it is accepted.
+fn accept_one(w: &[u16], m: &mut [u8], j: usize)
+    requires { ⌜ Ledger (now w) × (j < bookings (now w)) ⌝ }
+    ensures { λ _. ⌜ now (m .exit) ≡ acceptOne (now (w .entry)) j (now (m .entry)) ⌝ }
+{
+    if is_accepted(w, m, j) {
+        ancestry::mark_one(m, j);
+    }
+}
+
+// Marks the accepted bookings below n, in rising number: parents are lower.
+fn accept_below(w: &[u16], m: &mut [u8], n: usize)
+    requires { ⌜ Ledger (now w) × (n ≤ bookings (now w)) ⌝ }
+    ensures { λ _. ⌜ now (m .exit) ≡ upTo (acceptOne (now (w .entry))) n (now (m .entry)) ⌝ }
+{
+    for j in 0..n {
+        accept_one(w, m, j);
+    }
+}
+
+// The marks of the accepted bookings below n.
+fn accepted_below(w: &[u16], n: usize) -> [u8; layout::MOST_BOOKINGS]
+    requires { ⌜ Ledger (now w) × (n ≤ bookings (now w)) ⌝ }
+    ensures { λ r. ⌜ r ≡ acceptedBelow (now (w .entry)) n ⌝ }
+{
+    let mut m = [0u8; layout::MOST_BOOKINGS];
+    accept_below(w, &mut m, n);
+    m
+}
+
+// Whether booking i is accepted.
+pub fn accepted_of(w: &[u16], i: usize) -> bool
+    requires { ⌜ Ledger (now w) × (i < bookings (now w)) ⌝ }
+    ensures { λ r. ⌜ r ≡ acceptedOf (now (w .entry)) i ⌝ }
+{
+    let m = accepted_below(w, i + 1);
+    ancestry::is_member(&m, i)
+}

@@ -1,2 +1,0 @@
--- Which of the five readings is asked for.
-pub mod Asked

@@ -1,0 +1,74 @@
+-- Each reading is found at the one booking with the name, and says of it what its law says.
+use mathlib.Core.Path.{_≡_, refl, sym, ap, _∙_}
+use mathlib.Core.Bool.{Bool, true, false, true≢false}
+use mathlib.Core.List.{List}
+use mathlib.Core.Logic.{_↔_, _⊎_, inl, inr, ⊎-elim}
+use Prim.Native.Nat.{ℕ, zero, suc, _+_, _<_, _≤_}
+use native.Mathlib.Numerals.{add-one}
+use native.Mathlib.Nat.{add-zero}
+use native.Mathlib.Omega.{arith}
+use lib.IntN.{ℤ, pos, _-ℤ_}
+use Rattle.loops.specs.Total.{bit, total, count}
+use Rattle.rules.specs.declared.answer.Answer.{Answer}
+use Rattle.rules.specs.declared.answer.Answer.the-variants.{Taken}
+use Rattle.rules.specs.Layout.{bookings, nameOf, slotOf, confidenceOf, preferredIn}
+use Rattle.rules.specs.Ancestry.{Reaches, ancestry, isMember}
+use Rattle.rules.specs.Readings.{queryOf, acceptedOf, leadOf, rivalsMost, sizeOf}
+use Rattle.rules.specs.Sound.{Ledger}
+use Rattle.rules.specs.Calls.{readingCall, queryCall, acceptedCall, leadCall, confidenceCall, sizeCall}
+use Rattle.rules.proofs.Lookup.{found-is}
+use Rattle.rules.proofs.Tested.{reading-found}
+use Rattle.rules.proofs.Ancestry.{marks→Reaches, Reaches→marks}
+use Rattle.rules.specs.Told.{FirstArm, SecondArm}
+use Rattle.rules.proofs.Accepted.{accepted-is, accepted-genesis}
+use Rattle.rules.proofs.Readings.{query-is, rivalsMost-is}
+use Rattle.promises.specs.Told.{Sized, nobody, counts, passes, Tells, Told, ReadingsTold}
+
+module _ (w : List ℕ) (ledger : Ledger w) (i : ℕ) (below : i < bookings w) where
+  told : (f : ℕ → ℤ) → readingCall f w (nameOf w i) ≡ Taken (f i)
+  told f = reading-found f w (nameOf w i) ledger i (found-is w (ledger .sound) i below)
+
+  one : (b : Bool) → b ≡ true → Taken (pos (bit b)) ≡ Taken (pos 1)
+  one b e = ap (λ (x : Bool). Taken (pos (bit x))) e
+
+  other : (b : Bool) → (b ≡ true → ⊥) → Taken (pos (bit b)) ≡ Taken (pos 0)
+  other true n = absurd (n refl)
+  other false n = refl
+
+  accepted-both : (acceptedOf w i ≡ true) ↔ ((i ≡ 0) ⊎ FirstArm w i ⊎ SecondArm w i)
+  accepted-both = go i below
+    where
+      go : (k : ℕ) → k < bookings w → (acceptedOf w k ≡ true) ↔ ((k ≡ 0) ⊎ FirstArm w k ⊎ SecondArm w k)
+      go zero l = (λ e. inl refl, λ u. accepted-genesis w)
+      go (suc k) l =
+          let law = accepted-is w (ledger .sound) (suc k) l (omega arith) in
+          (λ e. inr (law .0 e), ⊎-elim (λ z. absurd (omega arith)) (law .1))
+
+  sized : (n : ℕ) → Sized w i n (count (isMember (ancestry w i)) n)
+  unfolding total
+  sized zero = nobody
+  sized (suc n) = go (isMember (ancestry w i) n) refl (sized n)
+    where
+      go : (b : Bool) → isMember (ancestry w i) n ≡ b → Sized w i n (count (isMember (ancestry w i)) n) → Sized w i (suc n) (count (isMember (ancestry w i)) n + bit b)
+      go true e s = rw add-one (counts (marks→Reaches w i n e) s)
+      go false e s = rw add-zero (passes (λ r. true≢false (sym (Reaches→marks w (ledger .sound) i below n r) ∙ e)) s)
+
+  pub each-told : Told w i
+  unfolding queryCall acceptedCall leadCall confidenceCall sizeCall leadOf sizeOf
+  each-told = record {
+    query = record {
+      yes = λ c. told (λ k. pos (bit (queryOf w k))) ∙ one (queryOf w i) (query-is w (ledger .sound) i below .1 c);
+      no = λ n. told (λ k. pos (bit (queryOf w k))) ∙ other (queryOf w i) (λ e. n (query-is w (ledger .sound) i below .0 e));
+    };
+    accepted = record {
+      yes = λ c. told (λ k. pos (bit (acceptedOf w k))) ∙ one (acceptedOf w i) (accepted-both .1 c);
+      no = λ n. told (λ k. pos (bit (acceptedOf w k))) ∙ other (acceptedOf w i) (λ e. n (accepted-both .0 e));
+    };
+    lead = (rivalsMost w i, rivalsMost-is w i, told (leadOf w));
+    confidence = told (λ k. pos (confidenceOf w k));
+    size = (sizeOf w i, sized (bookings w), told (λ k. pos (sizeOf w k)));
+  }
+
+pub readings-told : ReadingsTold
+unfolding ReadingsTold
+readings-told w ledger i below = each-told w ledger i below

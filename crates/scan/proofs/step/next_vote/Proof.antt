@@ -1,0 +1,51 @@
+-- Past the end there is no word; any other is the part of the line up to where it ends.
+use mathlib.Core.Path.{sym}
+use Rattle.scan.specs.Numbers.{voteOf}
+use Rattle.scan.proofs.Walk.{step-none, step-made}
+use borrow.Author.Needs.{needs}
+use Rattle.scan.proofs.step.next_vote.Statement.{statement}
+use Rattle.scan.proofs.step.next_vote.Tie as tie
+
+no-word : tie.Need-returns
+no-word c = let S = c .before .before in sym (step-none voteOf (S .args .line .now) (S .args .at) (c .if1 .taken))
+
+add-start : tie.Need-add-start
+add-start c = search needs
+
+end-after-requires : tie.Need-end-after-requires
+end-after-requires c κs = search needs
+
+sub-read-vote : tie.Need-sub-read-vote
+sub-read-vote c = search needs
+
+part-read-vote-start : tie.Need-part-read-vote-start
+part-read-vote-start c = search needs
+
+part-read-vote-end : tie.Need-part-read-vote-end
+part-read-vote-end c = search needs
+
+read-vote-requires : tie.Need-read-vote-requires
+read-vote-requires c κs = search needs
+
+step-by-requires : tie.Need-step-by-requires
+step-by-requires c κs = search needs
+
+stepped : tie.Need-returns-2
+stepped c =
+    let E = c .before .before .before in
+    let S = E .before .before .before in
+    step-made voteOf (S .args .line .now) (S .args .at) _ _ _ (E .before .if1 .left) (E .end-after .ensures .0) (c .before .read-vote .ensures) (c .step-by .ensures)
+
+pub next-vote-spec : {M : Type 1} → statement M
+next-vote-spec =
+    tie.close
+    (tie.spec
+    no-word
+    add-start
+    end-after-requires
+    sub-read-vote
+    part-read-vote-start
+    part-read-vote-end
+    read-vote-requires
+    step-by-requires
+    stepped)

@@ -1,0 +1,16 @@
+-- The test of the definition, at the word that the calls ensure.
+use borrow.Author.Needs.{needs}
+use Rattle.standing.proofs.stands_at.Statement.{statement}
+use Rattle.standing.proofs.stands_at.Tie as tie
+
+entry-of-requires : tie.Need-entry-of-requires
+entry-of-requires c κs = search needs
+
+wide-requires : tie.Need-wide-requires
+wide-requires c κs = search needs
+
+returns : tie.Need-returns
+returns c = cc
+
+pub stands-at-spec : {M : Type 1} → statement M
+stands-at-spec = tie.close (tie.spec entry-of-requires wide-requires returns)

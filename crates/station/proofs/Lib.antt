@@ -1,0 +1,2 @@
+-- Laws that the faces share. They assume nothing.
+pub mod Telling

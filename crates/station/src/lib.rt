@@ -1,0 +1,91 @@
+// THE C FACE: the calls of the ledger under names that C and Rust link, declared in include/filzhammer.h.
+// Each returns the call's number, writes its value through the last pointer, and leaves the call's words.
+use rules::answer::Answer;
+use rules::setting::Setting;
+ghost use Rattle.rules.specs.Calls.{openCall, bookCall, pollCall, queryCall, acceptedCall, leadCall, confidenceCall, sizeCall};
+ghost use Rattle.station.specs.Told.{Told, Left, settingOf};
+
+// An answer as its number and its value.
+fn tell(answer: Answer, value: &mut i64) -> u32
+    ensures { λ r. ⌜ Told answer r (now (value .exit)) ⌝ }
+{
+    *value = answer.value();
+    answer.number()
+}
+
+// The words become a ledger with the genesis only. Refusals 1, 3.
+#[no_mangle]
+pub extern "C" fn filz_open(
+    ws: &mut [u16],
+    k: u16,
+    a: u16,
+    beta1: u16,
+    beta2: u16,
+    value: &mut i64,
+) -> u32
+    ensures { λ r. ⌜ Left (openCall (now (ws .entry)) (settingOf k a beta1 beta2)) r (now (value .exit)) (now (ws .exit)) ⌝ }
+{
+    tell(ledger::open(ws, Setting { k, a, beta1, beta2 }), value)
+}
+
+// One booking more. Refusals 1, 2, 4, 5, 6, 7, 8, 9.
+#[no_mangle]
+pub extern "C" fn filz_book(
+    ws: &mut [u16],
+    name: u64,
+    slot: u16,
+    parents: &[u64],
+    value: &mut i64,
+) -> u32
+    ensures { λ r. ⌜ Left (bookCall (now (ws .entry)) name slot (now (parents .entry))) r (now (value .exit)) (now (ws .exit)) ⌝ }
+{
+    tell(ledger::book(ws, name, slot, parents), value)
+}
+
+// A completed poll. Refusals 1, 2, 10, 11, 12, 13.
+#[no_mangle]
+pub extern "C" fn filz_poll(ws: &mut [u16], name: u64, votes: &[u8], value: &mut i64) -> u32
+    ensures { λ r. ⌜ Left (pollCall (now (ws .entry)) name (now (votes .entry))) r (now (value .exit)) (now (ws .exit)) ⌝ }
+{
+    tell(ledger::poll(ws, name, votes), value)
+}
+
+// 1 if the whole ancestry is preferred, else 0. Refusals 1, 2, 10, as for every reading below.
+#[no_mangle]
+pub extern "C" fn filz_query(ws: &[u16], name: u64, value: &mut i64) -> u32
+    ensures { λ r. ⌜ Told (queryCall (now (ws .entry)) name) r (now (value .exit)) ⌝ }
+{
+    tell(ledger::query(ws, name), value)
+}
+
+// 1 if the booking is accepted, else 0.
+#[no_mangle]
+pub extern "C" fn filz_accepted(ws: &[u16], name: u64, value: &mut i64) -> u32
+    ensures { λ r. ⌜ Told (acceptedCall (now (ws .entry)) name) r (now (value .exit)) ⌝ }
+{
+    tell(ledger::accepted(ws, name), value)
+}
+
+// The confidence, less the greatest among the slot's other bookings.
+#[no_mangle]
+pub extern "C" fn filz_lead(ws: &[u16], name: u64, value: &mut i64) -> u32
+    ensures { λ r. ⌜ Told (leadCall (now (ws .entry)) name) r (now (value .exit)) ⌝ }
+{
+    tell(ledger::lead(ws, name), value)
+}
+
+// The confidence itself.
+#[no_mangle]
+pub extern "C" fn filz_confidence(ws: &[u16], name: u64, value: &mut i64) -> u32
+    ensures { λ r. ⌜ Told (confidenceCall (now (ws .entry)) name) r (now (value .exit)) ⌝ }
+{
+    tell(ledger::confidence(ws, name), value)
+}
+
+// How many members the ancestry has.
+#[no_mangle]
+pub extern "C" fn filz_size(ws: &[u16], name: u64, value: &mut i64) -> u32
+    ensures { λ r. ⌜ Told (sizeCall (now (ws .entry)) name) r (now (value .exit)) ⌝ }
+{
+    tell(ledger::size(ws, name), value)
+}

@@ -1,0 +1,163 @@
+/*
+ * Filzhammer: a ledger of bookings that compete for slots by vote.
+ *
+ * A caller lends the words; the library keeps nothing of its own, allocates nothing and reads no clock, so any number of
+ * ledgers may live side by side. Every call takes any contents and any numbers: it answers, or refuses and changes no word.
+ *
+ * Each call returns 0 when it is taken and writes its value through the last pointer; open, book and poll have value 0.
+ * A refused call returns the number of its refusal, writes value 0, and leaves every word of the workspace as it was.
+ *
+ * What the caller owes, since no C function can test it:
+ *  - every pointer leads to as many elements as the count beside it says, is aligned as its type asks, and is not null,
+ *    even where the count is 0;
+ *  - `value` leads to one int64_t, and what it leads to does not overlap the workspace, the parents or the votes;
+ *    neither do the parents or the votes overlap the workspace;
+ *  - while open, book or poll runs, no other thread uses the same workspace. Readings may run at the same time.
+ */
+#ifndef FILZHAMMER_H
+#define FILZHAMMER_H
+
+#include <stddef.h>
+#include <stdint.h>
+
+#ifdef __cplusplus
+extern "C" {
+#endif
+
+/*
+ * The workspace: FILZ_WORDS words of 16 bits.
+ *
+ *      0            header: n, k, a, beta1, beta2, p, 0, 0
+ *      8 + 12 * b   the record of booking b, for b from 0 to 511
+ *   6152 +  4 * s   the entry of slot s, for s from 0 to 255
+ *   7176            the end
+ *
+ * Bookings are numbered from 0 in the order in which they came. Number 0 is the genesis: name 0, slot 0, no parents.
+ */
+#define FILZ_WORDS 7176
+#define FILZ_BOOKINGS 512 /* with the genesis */
+#define FILZ_SLOTS 256    /* slot 0 is the genesis's alone */
+#define FILZ_PARENTS 4    /* a booking has one to four */
+#define FILZ_VOTES 64     /* the greatest k */
+#define FILZ_BETA 510     /* the greatest beta2 */
+
+#define FILZ_HEADER_WORDS 8
+#define FILZ_RECORD_WORDS 12
+#define FILZ_SLOT_WORDS 4
+#define FILZ_RECORDS_START 8
+#define FILZ_SLOTS_START 6152
+
+/* Instead of a number: an unused place for a parent; preferred and last of a slot that has no booking. */
+#define FILZ_NONE 65535
+
+/* Words of the header. */
+#define FILZ_HEADER_N 0 /* bookings, with the genesis */
+#define FILZ_HEADER_K 1
+#define FILZ_HEADER_A 2
+#define FILZ_HEADER_BETA1 3
+#define FILZ_HEADER_BETA2 4
+#define FILZ_HEADER_P 5 /* polls taken */
+
+/* Words of a record. */
+#define FILZ_RECORD_NAME 0    /* four words, the highest part first */
+#define FILZ_RECORD_SLOT 4
+#define FILZ_RECORD_PARENTS 5 /* four words, numbers in the order given, then FILZ_NONE */
+#define FILZ_RECORD_STATE 9   /* 0 waiting for its poll, 1 polled without a chit, 2 has a chit */
+#define FILZ_RECORD_CONFIDENCE 10
+#define FILZ_RECORD_ORDINAL 11 /* which poll it was, from 1; 0 before it */
+
+/* Words of a slot entry. */
+#define FILZ_SLOT_PREFERRED 0 /* the number of the booking that this station stands for */
+#define FILZ_SLOT_LAST 1      /* the number of the booking that a successful poll raised last */
+#define FILZ_SLOT_COUNTER 2   /* how often it was raised again since it became last */
+#define FILZ_SLOT_BOOKINGS 3  /* how many bookings the slot has */
+
+/* Votes. Every byte from 2 to 254 is refused. */
+#define FILZ_SILENT 0
+#define FILZ_YES 1
+#define FILZ_NO 255 /* the signed byte -1 */
+
+/* The setting of the paper that the rules come from. */
+#define FILZ_PAPER_K 10
+#define FILZ_PAPER_A 8
+#define FILZ_PAPER_BETA1 11
+#define FILZ_PAPER_BETA2 150
+
+/* What a call returns. Where several refusals apply, each call names the first of its own list below. */
+enum filz_number {
+    FILZ_TAKEN = 0,
+    FILZ_WRONG_LENGTH = 1,   /* the workspace isn't FILZ_WORDS long */
+    FILZ_NOT_SOUND = 2,      /* its words aren't those of a ledger: never opened, or damaged since */
+    FILZ_BAD_SETTING = 3,    /* the setting breaks 1 <= k <= 64, a <= k < 2 * a or 1 <= beta1 <= beta2 <= 510 */
+    FILZ_NAME_TAKEN = 4,     /* a booking has this name already; name 0 is the genesis's */
+    FILZ_BAD_SLOT = 5,       /* the slot is 0 or above 255 */
+    FILZ_BAD_PARENTS = 6,    /* no parents, or more than four */
+    FILZ_UNKNOWN_PARENT = 7, /* no booking has the name of one of the parents */
+    FILZ_PARENT_TWICE = 8,   /* two parents are the same */
+    FILZ_FULL = 9,           /* 512 bookings are there already */
+    FILZ_UNKNOWN_NAME = 10,  /* no booking has this name */
+    FILZ_NOT_WAITING = 11,   /* the booking was polled before; the genesis counts as polled */
+    FILZ_WRONG_VOTES = 12,   /* the number of votes isn't the ledger's k */
+    FILZ_BAD_VOTE = 13       /* a vote is neither FILZ_YES, FILZ_NO nor FILZ_SILENT */
+};
+
+/*
+ * Makes the words a ledger that has only the genesis, whatever they were before.
+ *
+ * k is how many votes a poll has and a how many of them must be yes; beta1 and beta2 are what filz_accepted compares with.
+ *
+ * Refuses, in this order: FILZ_WRONG_LENGTH, FILZ_BAD_SETTING.
+ */
+uint32_t filz_open(uint16_t *ws, size_t words, uint16_t k, uint16_t a, uint16_t beta1, uint16_t beta2, int64_t *value);
+
+/*
+ * Books `name` for `slot` on parents booked earlier, which are given by their names. It waits for its poll, with
+ * confidence 0. In an empty slot it is preferred at once; in another the slot only has one booking more.
+ *
+ * Refuses, in this order: FILZ_WRONG_LENGTH, FILZ_NOT_SOUND, FILZ_NAME_TAKEN, FILZ_BAD_SLOT, FILZ_BAD_PARENTS,
+ * FILZ_UNKNOWN_PARENT, FILZ_PARENT_TWICE, FILZ_FULL.
+ */
+uint32_t filz_book(uint16_t *ws, size_t words, uint64_t name, uint16_t slot, const uint64_t *parents, size_t count,
+                   int64_t *value);
+
+/*
+ * Enters the completed poll of a waiting booking, one byte for each of the k stations asked. It succeeds if at least a of
+ * them are yes; no and silence count alike. Then every member of its ancestry, itself too, gains one confidence, and those
+ * strictly ahead of their slot's preferred booking take its place. A failed poll only marks the booking as polled.
+ * A booking is polled once.
+ *
+ * Refuses, in this order: FILZ_WRONG_LENGTH, FILZ_NOT_SOUND, FILZ_UNKNOWN_NAME, FILZ_NOT_WAITING, FILZ_WRONG_VOTES,
+ * FILZ_BAD_VOTE.
+ */
+uint32_t filz_poll(uint16_t *ws, size_t words, uint64_t name, const uint8_t *votes, size_t count, int64_t *value);
+
+/*
+ * The readings, which change nothing. A booking's ancestry is itself and everything reached through parents.
+ *
+ * Each refuses, in this order: FILZ_WRONG_LENGTH, FILZ_NOT_SOUND, FILZ_UNKNOWN_NAME.
+ */
+
+/* 1 if every member of the ancestry is preferred in its slot, else 0: how this station votes when it is asked. */
+uint32_t filz_query(const uint16_t *ws, size_t words, uint64_t name, int64_t *value);
+
+/*
+ * 1 if the booking is accepted, else 0. The genesis is. Another booking is if it is alone in its slot, all its parents are
+ * accepted and the slot's counter is above beta1; or if it is both preferred and last in its slot and the counter is above
+ * beta2. Of the bookings of one slot at most one is accepted at a time.
+ */
+uint32_t filz_accepted(const uint16_t *ws, size_t words, uint64_t name, int64_t *value);
+
+/* How far it is ahead of its best rival: its confidence, less the greatest of the slot's others (or less 0), -511 to 511. */
+uint32_t filz_lead(const uint16_t *ws, size_t words, uint64_t name, int64_t *value);
+
+/* Its confidence, 0 to 511: since the opening, how many successful polls were of a booking that has it in its ancestry. */
+uint32_t filz_confidence(const uint16_t *ws, size_t words, uint64_t name, int64_t *value);
+
+/* How many members its ancestry has, 1 to 512. */
+uint32_t filz_size(const uint16_t *ws, size_t words, uint64_t name, int64_t *value);
+
+#ifdef __cplusplus
+}
+#endif
+
+#endif
