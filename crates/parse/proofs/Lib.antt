@@ -6,3 +6,4 @@ pub mod Walk
 pub mod Leading
 pub mod Grammar
 pub mod Whole
+pub mod Counted

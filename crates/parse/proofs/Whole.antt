@@ -36,7 +36,7 @@ line-says line end k e q =
 -- ---- a booking says nothing of votes, a poll nothing of parents
 
 -- what holds of a bad line and of every rest holds of a number and its rest
-number-holds : (P : Said → Type 0) (reader : List ℕ → Number) (rest : ℕ → List (List ℕ) → Said) → P (alone Bad)
+pub number-holds : (P : Said → Type 0) (reader : List ℕ → Number) (rest : ℕ → List (List ℕ) → Said) → P (alone Bad)
     → ((v : ℕ) (ws : List (List ℕ)) → P (rest v ws)) → (ws : List (List ℕ)) → P (number (alone Bad) reader ws rest)
 number-holds P reader rest bad each [] = bad
 number-holds P reader rest bad each (w ∷ ws) = go (reader w)
