@@ -91,7 +91,7 @@ fn accept_below(w: &[u16], m: &mut [u8], n: usize)
 }
 
 // The marks of the accepted bookings below n.
-fn accepted_below(w: &[u16], n: usize) -> [u8; layout::MOST_BOOKINGS]
+pub fn accepted_below(w: &[u16], n: usize) -> [u8; layout::MOST_BOOKINGS]
     requires { ⌜ Ledger (now w) × (n ≤ bookings (now w)) ⌝ }
     ensures { λ r. ⌜ r ≡ acceptedBelow (now (w .entry)) n ⌝ }
 {

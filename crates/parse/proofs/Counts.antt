@@ -141,6 +141,9 @@ line-counted line = go (words line)
 take-sets : (buffer vs : List ℕ) → length vs ≤ length buffer → take (length vs) (sets buffer 0 vs) ≡ vs
 take-sets buffer vs h = ap (take (length vs)) (sets-eq vs buffer 0 (omega arith)) ∙ take-at vs (drop (0 + length vs) buffer) (length vs) refl
 
+pub take-stored : (buffer vs : List ℕ) (n : ℕ) → length vs ≡ n → n ≤ length buffer → take n (sets buffer 0 vs) ≡ vs
+take-stored buffer vs n e h = rw (← e) (take-sets buffer vs (omega arith))
+
 module _ {line parents votes : List ℕ} {r : Command} {parents′ votes′ : List ℕ} (p : Parsed line parents votes r parents′ votes′) where
   pub parsed-parents : (name slot n : ℕ) → r ≡ Book name slot n → length parents ≡ parentsMost → (take n parents′ ≡ (lineSays line) .parents) × (n ≤ parentsMost)
   parsed-parents name slot n e h =

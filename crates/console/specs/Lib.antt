@@ -1,0 +1,2 @@
+-- What the program needs besides what a line does.
+pub mod Lines

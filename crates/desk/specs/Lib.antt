@@ -1,0 +1,2 @@
+-- What one line of the text program does.
+pub mod Serve

@@ -1,0 +1,56 @@
+-- Each field is what its reader says; the mark of booking i among all accepted ones is its acceptance.
+use borrow.Author.Needs.{needs}
+use Rattle.rules.specs.Layout.{bookings}
+use Rattle.rules.specs.Listing.{listRow}
+use Rattle.rules.proofs.Accepted.{acceptedBelow-is}
+use Rattle.listing.proofs.row_of.Statement.{statement}
+use Rattle.listing.proofs.row_of.Tie as tie
+
+slot-of-requires : tie.Need-slot-of-requires
+slot-of-requires c κs = search needs
+
+get-requires : tie.Need-get-requires
+get-requires c κs = search needs
+
+wide-requires : tie.Need-wide-requires
+wide-requires c κs = search needs
+
+confidence-of-requires : tie.Need-confidence-of-requires
+confidence-of-requires c κs = search needs
+
+wide-requires-2 : tie.Need-wide-requires-2
+wide-requires-2 c κs = search needs
+
+is-preferred-requires : tie.Need-is-preferred-requires
+is-preferred-requires c κs = search needs
+
+flag-requires : tie.Need-flag-requires
+flag-requires c κs = search needs
+
+is-member-requires : tie.Need-is-member-requires
+is-member-requires c κs = search needs
+
+flag-requires-2 : tie.Need-flag-requires-2
+flag-requires-2 c κs = search needs
+
+returns : tie.Need-returns
+unfolding listRow
+returns c =
+    let S = c .before .before .before .before .before .before .before .before .before .before .before in
+    let w = S .args .w .now in
+    cc (acceptedBelow-is w (bookings w) (S .args .i) (S .pre .1))
+
+pub row-of-spec : {M : Type 1} → statement M
+row-of-spec =
+    tie.close
+    (tie.spec
+    slot-of-requires
+    get-requires
+    wide-requires
+    confidence-of-requires
+    wide-requires-2
+    is-preferred-requires
+    flag-requires
+    is-member-requires
+    flag-requires-2
+    returns)

@@ -1,0 +1,2 @@
+-- What the listing of a ledger prints.
+pub mod Listed
