@@ -23,7 +23,7 @@ ghost use Prim.Native.Nat.{_≤_};
 ghost use lib.ListN.{length};
 
 // The words of a workspace, and one more.
-const LONG: usize = 7177;
+const LONG: usize = layout::SIZE + 1;
 
 type Words = [u16; LONG];
 
@@ -85,10 +85,10 @@ fn tell(line: &[u8], first: u8, w: &mut Words, lent: usize) {
 // `words n`.
 fn lend(line: &[u8]) -> usize {
     let end = scan::word::word_end(line);
-    let Step::Next(n, _) = scan::step::next_number(line, end, 7177) else {
+    let Step::Next(n, _) = scan::step::next_number(line, end, LONG as u64) else {
         return 0;
     };
-    if n <= 7177 { n as usize } else { 0 }
+    n as usize
 }
 
 // Obeys a line, and answers how many words are lent from here on.

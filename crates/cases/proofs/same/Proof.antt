@@ -1,14 +1,15 @@
 -- The loop stays within the words.
-use Prim.Native.Nat.{_-_, _≤_}
+use Prim.Native.Nat.{_+_, _-_, _≤_}
 use borrow.Author.Needs.{needs}
+use Rattle.rules.specs.Layout.{size}
 use Rattle.cases.proofs.same.Statement.{statement}
 use Rattle.cases.proofs.same.Tie as tie
 
 abbrev Inv-loop : tie.InvT-loop
-Inv-loop a b j₀ j = j ≤ 7177
+Inv-loop a b j₀ j = j ≤ size + 1
 
 abbrev μ-loop : tie.MeasureT-loop
-μ-loop a b j₀ j = 7177 - j
+μ-loop a b j₀ j = size + 1 - j
 
 loop-holds : tie.Need-loop-holds Inv-loop μ-loop
 loop-holds c = search needs
