@@ -1,8 +1,8 @@
 // The readings by name, on a workspace that is known to be a ledger. The public calls test once and come here.
-use rules::answer::Answer;
-use rules::answer::Found;
-use rules::answer::Reading;
-use rules::answer::Refusal;
+use terms::answer::Answer;
+use terms::answer::Found;
+use terms::answer::Reading;
+use terms::answer::Refusal;
 ghost use mathlib.Core.Path.{_≡_};
 ghost use Prim.Native.Nat.{_<_};
 ghost use lib.IntN.{pos};

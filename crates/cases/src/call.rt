@@ -1,8 +1,8 @@
 // A call in the words of the text program, made through the public calls.
 use crate::Done;
 use parse::command::Command;
-use rules::answer::Answer;
-use rules::answer::Reading;
+use terms::answer::Answer;
+use terms::answer::Reading;
 
 fn read(w: &[u16], reading: Reading, name: u64) -> Answer {
     match reading {

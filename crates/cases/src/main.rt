@@ -16,9 +16,9 @@ mod change;
 mod many;
 mod show;
 
-use rules::answer::Answer;
 use rules::layout;
 use scan::step::Step;
+use terms::answer::Answer;
 ghost use Prim.Native.Nat.{_≤_};
 ghost use lib.ListN.{length};
 

@@ -1,5 +1,5 @@
 // Many calls at once, and how many of them were taken.
-use rules::answer::Answer;
+use terms::answer::Answer;
 ghost use Prim.Native.Nat.{_≤_};
 
 fn one_if_taken(a: Answer) -> u64

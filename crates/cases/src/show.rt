@@ -1,6 +1,6 @@
 // Writing to standard output.
 use crate::Done;
-use rules::answer::Answer;
+use terms::answer::Answer;
 
 pub(crate) fn text(bytes: &[u8]) {
     io::write_all(1, bytes);

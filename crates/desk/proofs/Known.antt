@@ -5,19 +5,19 @@ use mathlib.Core.List.{List}
 use Prim.Native.Nat.{ℕ}
 use lib.ListN.{length, replicate}
 use borrow.Author.Tests.{eq-eqb}
-use Rattle.rules.specs.declared.setting.Setting.{Setting}
-use Rattle.rules.specs.declared.answer.Refusal.the-variants.{NotSound, BadSetting}
-use Rattle.rules.specs.declared.answer.Answer.{Answer}
-use Rattle.rules.specs.declared.answer.Answer.the-variants.{Refused}
-use Rattle.rules.specs.Answers.{Outcome, outcome, leaves, done}
+use Rattle.terms.specs.declared.setting.Setting.{Setting}
+use Rattle.terms.specs.declared.answer.Refusal.the-variants.{NotSound, BadSetting}
+use Rattle.terms.specs.declared.answer.Answer.{Answer}
+use Rattle.terms.specs.declared.answer.Answer.the-variants.{Refused}
+use Rattle.terms.specs.Answers.{Outcome, outcome, leaves, done}
 use Rattle.rules.specs.Layout.{size}
-use Rattle.rules.specs.Setting.{isGood}
+use Rattle.terms.specs.Setting.{isGood}
 use Rattle.rules.specs.IsSound.{isSound, headerGood}
 use Rattle.rules.specs.Open.{opened}
 use Rattle.rules.specs.Sound.{Ledger}
 use Rattle.rules.specs.Calls.{tested, openCall, bookCall, pollCall}
-use Rattle.rules.proofs.Sound.{isSound→Sound, Sound→isSound}
-use Rattle.rules.proofs.Tested.{tested-sound}
+use Rattle.laws.proofs.Sound.{isSound→Sound, Sound→isSound}
+use Rattle.laws.proofs.Tested.{tested-sound}
 use Rattle.promises.specs.Run.{Book, Poll, outcomeOf}
 use Rattle.promises.specs.Soundness.{SoundKept}
 use Rattle.promises.proofs.Kept.{sound-kept}

@@ -6,17 +6,17 @@ use Prim.Native.Nat.{ℕ, _+_, _≤_}
 use native.Mathlib.Omega.{arith}
 use lib.ListN.{length, take}
 use lib.Seq.{sets, length-sets}
-use Rattle.rules.specs.declared.answer.Answer.{Answer}
-use Rattle.rules.specs.declared.answer.Answer.the-variants.{Refused}
-use Rattle.rules.specs.declared.answer.Refusal.the-variants.{NotSound}
-use Rattle.rules.specs.declared.answer.Reading.{Reading}
-use Rattle.rules.specs.Answers.{Outcome, outcome, done}
+use Rattle.terms.specs.declared.answer.Answer.{Answer}
+use Rattle.terms.specs.declared.answer.Answer.the-variants.{Refused}
+use Rattle.terms.specs.declared.answer.Refusal.the-variants.{NotSound}
+use Rattle.terms.specs.declared.answer.Reading.{Reading}
+use Rattle.terms.specs.Answers.{Outcome, outcome, done}
 use Rattle.rules.specs.Layout.{size}
 use Rattle.rules.specs.IsSound.{isSound}
 use Rattle.rules.specs.Sound.{Ledger}
 use Rattle.rules.specs.Calls.{readBy}
 use Rattle.rules.specs.Listing.{listCall}
-use Rattle.rules.proofs.Tested.{tested-known, tested-sound}
+use Rattle.laws.proofs.Tested.{tested-known, tested-sound}
 use Rattle.print.specs.Put.{Put}
 use Rattle.print.specs.Print.{callPrints, readingPrints}
 use Rattle.parse.specs.declared.command.Command.{Command}

@@ -6,15 +6,15 @@ use Prim.Native.Nat.{ℕ, _+_, _^_, _<_, _≤_}
 use native.Mathlib.Omega.{arith}
 use lib.IntN.{ℤ, pos, natAbs}
 use lib.ListN.{length, length-append}
-use Rattle.rules.specs.declared.answer.Refusal.{Refusal}
-use Rattle.rules.specs.declared.answer.Answer.{Answer}
-use Rattle.rules.specs.declared.answer.Answer.the-variants.{Taken, Refused}
-use Rattle.rules.specs.declared.answer.Reading.{Reading}
-use Rattle.rules.specs.declared.answer.Reading.the-variants.{Query, Accepted, Lead, Confidence, Size}
-use Rattle.rules.specs.Answers.{refusalNumber, number, value}
+use Rattle.terms.specs.declared.answer.Refusal.{Refusal}
+use Rattle.terms.specs.declared.answer.Answer.{Answer}
+use Rattle.terms.specs.declared.answer.Answer.the-variants.{Taken, Refused}
+use Rattle.terms.specs.declared.answer.Reading.{Reading}
+use Rattle.terms.specs.declared.answer.Reading.the-variants.{Query, Accepted, Lead, Confidence, Size}
+use Rattle.terms.specs.Answers.{refusalNumber, number, value}
 use Rattle.rules.specs.IsSound.{isSound}
 use Rattle.rules.specs.Calls.{readBy, queryCall, acceptedCall, leadCall, confidenceCall, sizeCall}
-use Rattle.rules.proofs.Calls.{refusalNumber-within}
+use Rattle.laws.proofs.Calls.{refusalNumber-within}
 use Rattle.text.specs.Bytes.{lineFeed}
 use Rattle.print.specs.Decimal.{decimal, sign, signed}
 use Rattle.print.specs.Print.{refusedText, refusalPrints, readingPrints, callPrints, answerMost}

@@ -4,9 +4,9 @@ use mathlib.Core.Path.{_≡_}
 use mathlib.Core.Bool.{Bool}
 use mathlib.Core.List.{List}
 use lib.ListN.{length}
-use Rattle.rules.specs.declared.answer.Answer.{Answer}
-use Rattle.rules.specs.declared.answer.Answer.the-variants.{Taken, Refused}
-use Rattle.rules.specs.Answers.{Outcome}
+use Rattle.terms.specs.declared.answer.Answer.{Answer}
+use Rattle.terms.specs.declared.answer.Answer.the-variants.{Taken, Refused}
+use Rattle.terms.specs.Answers.{Outcome}
 use Rattle.rules.specs.Layout.{size}
 use Rattle.rules.specs.IsSound.{isSound}
 use Rattle.rules.specs.Calls.{openCall, bookCall, pollCall, readBy}

@@ -1,12 +1,12 @@
 // What one line does to the workspace and prints. Whether the workspace is sound is known at all times, so it is never tested again.
 use parse::command::Command;
-use rules::answer::Answer;
-use rules::answer::Reading;
-use rules::answer::Refusal;
-use rules::setting::Setting;
+use terms::answer::Answer;
+use terms::answer::Reading;
+use terms::answer::Refusal;
+use terms::setting::Setting;
 ghost use mathlib.Core.Path.{_≡_};
 ghost use lib.ListN.{length};
-ghost use Rattle.rules.specs.Answers.{outcome};
+ghost use Rattle.terms.specs.Answers.{outcome};
 ghost use Rattle.rules.specs.Layout.{size};
 ghost use Rattle.rules.specs.IsSound.{isSound};
 ghost use Rattle.rules.specs.Calls.{openCall, bookCall, pollCall, readBy};

@@ -7,16 +7,16 @@ use native.Mathlib.Omega.{arith}
 use lib.ListN.{length}
 use lib.Dec.{eqb}
 use borrow.Author.Tests.{eqb-true}
-use Rattle.rules.specs.declared.answer.Refusal.{Refusal}
-use Rattle.rules.specs.declared.answer.Refusal.the-variants.{WrongLength, NotSound}
-use Rattle.rules.specs.declared.answer.Answer.{Answer}
-use Rattle.rules.specs.declared.answer.Answer.the-variants.{Refused}
-use Rattle.rules.specs.Answers.{outcome, leaves}
+use Rattle.terms.specs.declared.answer.Refusal.{Refusal}
+use Rattle.terms.specs.declared.answer.Refusal.the-variants.{WrongLength, NotSound}
+use Rattle.terms.specs.declared.answer.Answer.{Answer}
+use Rattle.terms.specs.declared.answer.Answer.the-variants.{Refused}
+use Rattle.terms.specs.Answers.{outcome, leaves}
 use Rattle.rules.specs.Layout.{size}
 use Rattle.rules.specs.IsSound.{isSound}
 use Rattle.rules.specs.Sound.{Ledger}
 use Rattle.rules.specs.Calls.{tested}
-use Rattle.rules.proofs.Sound.{isSound→Sound}
+use Rattle.laws.proofs.Sound.{isSound→Sound}
 use Rattle.ledger.specs.declared.Tested.{Tested}
 use Rattle.ledger.specs.declared.Tested.the-variants.{Fine, Stop}
 use Rattle.ledger.specs.Test.{testOf}

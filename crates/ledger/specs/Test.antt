@@ -4,7 +4,7 @@ use mathlib.Core.Bool.{not, cond}
 use mathlib.Core.List.{List}
 use lib.ListN.{length}
 use lib.Dec.{eqb}
-use Rattle.rules.specs.declared.answer.Refusal.the-variants.{WrongLength, NotSound}
+use Rattle.terms.specs.declared.answer.Refusal.the-variants.{WrongLength, NotSound}
 use Rattle.rules.specs.Layout.{size}
 use Rattle.rules.specs.IsSound.{isSound}
 use Rattle.ledger.specs.declared.Tested.{Tested}

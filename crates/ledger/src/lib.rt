@@ -1,11 +1,11 @@
 // THE PUBLIC CALLS. Each takes any lent words and any arguments, needs no check first, and settles answer and words by the law.
-use rules::answer::Answer;
-use rules::answer::Reading;
-use rules::answer::Refusal;
 use rules::layout;
-use rules::setting::Setting;
+use terms::answer::Answer;
+use terms::answer::Reading;
+use terms::answer::Refusal;
+use terms::setting::Setting;
 ghost use mathlib.Core.Path.{_≡_};
-ghost use Rattle.rules.specs.Answers.{outcome};
+ghost use Rattle.terms.specs.Answers.{outcome};
 ghost use Rattle.rules.specs.Readings.{readingOf};
 ghost use Rattle.rules.specs.Calls.{openCall, bookCall, pollCall, readingCall, queryCall, acceptedCall, leadCall, confidenceCall, sizeCall};
 ghost use Rattle.ledger.specs.Test.{testOf};

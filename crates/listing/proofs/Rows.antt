@@ -12,8 +12,8 @@ use Rattle.rules.specs.Layout.{bookings, slotOf, stateOf, confidenceOf}
 use Rattle.rules.specs.Readings.{isPreferred, acceptedOf}
 use Rattle.rules.specs.Sound.{Ledger}
 use Rattle.rules.specs.Listing.{listRow}
-use Rattle.rules.proofs.Slots.{slotOf-lt}
-use Rattle.rules.proofs.Readings.{confidence-le}
+use Rattle.laws.proofs.Slots.{slotOf-lt}
+use Rattle.laws.proofs.Readings.{confidence-le}
 use Rattle.print.specs.Put.{Put}
 use Rattle.print.specs.Print.{listHeader, rowPrints}
 use Rattle.print.proofs.Puts.{put-none, put-then}

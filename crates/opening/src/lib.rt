@@ -1,6 +1,6 @@
 // The words of a newly opened ledger: with the genesis only, in the setting given.
 use rules::layout;
-use rules::setting::Setting;
+use terms::setting::Setting;
 ghost use mathlib.Core.Path.{_≡_};
 ghost use Prim.Native.Nat.{_<_};
 ghost use lib.ListN.{length, getD};

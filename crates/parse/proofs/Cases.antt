@@ -5,7 +5,7 @@ use Prim.Native.String.{String}
 use Rattle.loops.specs.Search.{firstFrom}
 use Rattle.loops.specs.Turns.{upTo}
 use Rattle.text.specs.Bytes.{bytes}
-use Rattle.rules.specs.declared.answer.Reading.the-variants.{Query, Accepted, Lead, Confidence, Size}
+use Rattle.terms.specs.declared.answer.Reading.the-variants.{Query, Accepted, Lead, Confidence, Size}
 use Rattle.scan.specs.Words.{words, wordEnd, wordsAfter}
 use Rattle.scan.specs.Numbers.{valueOf, isNumber, numberOf, voteOf}
 use Rattle.scan.specs.Keywords.{isSame}

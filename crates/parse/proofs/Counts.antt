@@ -8,10 +8,10 @@ use native.Mathlib.Omega.{arith}
 use lib.ListN.{length, take, drop}
 use lib.Seq.{sets, sets-eq, take-at}
 use lib.Dec.{ltb}
-use Rattle.rules.specs.declared.setting.Setting.{Setting}
+use Rattle.terms.specs.declared.setting.Setting.{Setting}
 use Rattle.scan.specs.declared.many.Many.{Many}
 use Rattle.scan.specs.declared.many.Many.the-variants.{Count, Refused}
-use Rattle.rules.specs.declared.answer.Reading.{Reading}
+use Rattle.terms.specs.declared.answer.Reading.{Reading}
 use Rattle.scan.specs.declared.keyword.Keyword.{Keyword}
 use Rattle.scan.specs.declared.keyword.Keyword.the-variants.{
   Open as openWord,

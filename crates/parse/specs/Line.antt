@@ -6,12 +6,12 @@ use mathlib.Core.List.{List, [], _∷_}
 use lib.ListN.{getD}
 use lib.Seq.{sets}
 use lib.Dec.{ltb}
-use Rattle.rules.specs.declared.setting.Setting.{Setting}
+use Rattle.terms.specs.declared.setting.Setting.{Setting}
 use Rattle.scan.specs.declared.number.Number.{Number}
 use Rattle.scan.specs.declared.number.Number.the-variants.{Value, Bad as NoNumber}
 use Rattle.scan.specs.declared.many.Many.{Many}
 use Rattle.scan.specs.declared.many.Many.the-variants.{Count, Refused}
-use Rattle.rules.specs.declared.answer.Reading.{Reading}
+use Rattle.terms.specs.declared.answer.Reading.{Reading}
 use Rattle.parse.specs.declared.command.Command.{Command}
 use Rattle.parse.specs.declared.command.Command.the-variants.{Open, Book, Poll, Read, List as ListAll, Bad}
 use Rattle.scan.specs.declared.keyword.Keyword.{Keyword}

@@ -1,6 +1,6 @@
 // What a line asks for.
-use rules::answer::Reading;
-use rules::setting::Setting;
+use terms::answer::Reading;
+use terms::setting::Setting;
 
 // The parents of a booking and the votes of a poll stand in the lent buffers: here is how many.
 pub enum Command {

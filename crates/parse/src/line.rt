@@ -1,12 +1,12 @@
 // What follows the first word of a line, for each command.
 use crate::command::Command;
-use rules::answer::Reading;
-use rules::setting::Setting;
 use scan::many::Many;
 use scan::many::read_numbers;
 use scan::many::read_votes;
 use scan::step::Step;
 use scan::step::next_number;
+use terms::answer::Reading;
+use terms::setting::Setting;
 ghost use mathlib.Core.Path.{_≡_};
 ghost use lib.ListN.{length};
 ghost use Prim.Native.Nat.{_≤_};

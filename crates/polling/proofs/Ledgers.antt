@@ -6,10 +6,10 @@ use native.Mathlib.Omega.{arith}
 use Rattle.rules.specs.Layout.{mostBookings, slotField, preferredField, counterField, entry, bookings, slotOf}
 use Rattle.rules.specs.Sound.{Ledger}
 use Rattle.rules.specs.Poll.{noted, raised}
-use Rattle.rules.proofs.Slots.{slotOf-lt, preferredIn-lt}
-use Rattle.rules.proofs.Readings.{confidence-le, counter-le}
-use Rattle.rules.proofs.Noted.{length-noted, field-noted-beside, confidence-noted, entry-noted-kept}
-use Rattle.rules.proofs.Raised.{length-raised, field-raised-beside, entry-raised-kept}
+use Rattle.laws.proofs.Slots.{slotOf-lt, preferredIn-lt}
+use Rattle.laws.proofs.Readings.{confidence-le, counter-le}
+use Rattle.laws.proofs.Noted.{length-noted, field-noted-beside, confidence-noted, entry-noted-kept}
+use Rattle.laws.proofs.Raised.{length-raised, field-raised-beside, entry-raised-kept}
 use Rattle.raising.specs.Raising.{Raising}
 use Rattle.settling.specs.Settling.{Settling}
 use Rattle.settling.proofs.Settles.{Moved, moved-settling}

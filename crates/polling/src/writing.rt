@@ -8,7 +8,7 @@ ghost use Rattle.rules.specs.Sound.{Ledger};
 ghost use Rattle.rules.specs.Poll.{failed};
 ghost use Rattle.polling.specs.Marked.{succeededWith};
 
-// The states that a poll writes, as rules::vote reads them.
+// The states that a poll writes, as terms::vote reads them.
 const FAILED: u16 = 1;
 
 const CHIT: u16 = 2;

@@ -2,9 +2,9 @@
 use mathlib.Core.Path.{_≡_, refl}
 use mathlib.Core.List.{[], _∷_}
 use lib.IntN.{pos, negsuc}
-use Rattle.rules.specs.declared.answer.Answer.the-variants.{Taken, Refused}
-use Rattle.rules.specs.declared.answer.Refusal.the-variants.{WrongLength, Full, BadVote}
-use Rattle.rules.specs.Answers.{done}
+use Rattle.terms.specs.declared.answer.Answer.the-variants.{Taken, Refused}
+use Rattle.terms.specs.declared.answer.Refusal.the-variants.{WrongLength, Full, BadVote}
+use Rattle.terms.specs.Answers.{done}
 use Rattle.text.specs.Bytes.{bytes}
 use Rattle.print.specs.Decimal.{digitsOf, decimal, signed}
 use Rattle.print.specs.Print.{readingPrints, callPrints, rowPrints}

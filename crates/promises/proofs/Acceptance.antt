@@ -11,17 +11,17 @@ use lib.Dec.{eqb}
 use borrow.Author.Tests.{eq-eqb}
 use Rattle.loops.specs.Total.{bit}
 use Rattle.loops.proofs.Total.{count-one}
-use Rattle.rules.specs.declared.answer.Answer.the-variants.{Taken}
+use Rattle.terms.specs.declared.answer.Answer.the-variants.{Taken}
 use Rattle.rules.specs.Layout.{bookings, slotOf, nameOf, preferredIn, heldIn}
 use Rattle.rules.specs.IsSound.{bookingsOf}
 use Rattle.rules.specs.Readings.{acceptedOf}
 use Rattle.rules.specs.Book.{lookUp, numberOf}
 use Rattle.rules.specs.Calls.{acceptedCall}
 use Rattle.rules.specs.Sound.{Sound, Ledger}
-use Rattle.rules.proofs.Lookup.{found-is}
+use Rattle.laws.proofs.Lookup.{found-is}
 use Rattle.rules.specs.Told.{FirstArm, SecondArm}
-use Rattle.rules.proofs.Slots.{slot-held}
-use Rattle.rules.proofs.Accepted.{accepted-is}
+use Rattle.laws.proofs.Slots.{slot-held}
+use Rattle.laws.proofs.Accepted.{accepted-is}
 use Rattle.promises.specs.Acceptance.{AcceptedOnce, AcceptedCallOnce}
 use Rattle.promises.proofs.Taken.{reading-taken}
 

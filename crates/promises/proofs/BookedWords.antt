@@ -38,8 +38,8 @@ use Rattle.rules.specs.Layout.{
   heldIn,
 }
 use Rattle.rules.specs.Book.{parentNumber, newRecord, entered, booked}
-use Rattle.rules.proofs.Bookings.{at-place}
-use Rattle.rules.proofs.Words.{
+use Rattle.laws.proofs.Bookings.{at-place}
+use Rattle.laws.proofs.Words.{
   length-withHeader,
   header-withHeader-same,
   header-withHeader-other,

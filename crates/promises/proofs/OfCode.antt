@@ -2,8 +2,8 @@
 use mathlib.Core.Path.{sym, ap, subst, _∙_}
 use mathlib.Core.List.{List}
 use Prim.Native.Nat.{ℕ}
-use Rattle.rules.specs.declared.answer.Answer.{Answer}
-use Rattle.rules.specs.Answers.{Outcome, number, value}
+use Rattle.terms.specs.declared.answer.Answer.{Answer}
+use Rattle.terms.specs.Answers.{Outcome, number, value}
 use Rattle.promises.specs.Run.{outcomeOf, isTaken, History, fresh, historyAfter}
 use Rattle.promises.specs.Acceptance.{AcceptedOnce}
 use Rattle.promises.specs.Refusals.{RefusedKeeps}

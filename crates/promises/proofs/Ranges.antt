@@ -7,17 +7,17 @@ use native.Mathlib.Decide.{ℕ-discrete}
 use native.Mathlib.Omega.{arith}
 use lib.IntN.{ℤ, pos, natAbs}
 use Rattle.loops.specs.Total.{bit}
-use Rattle.rules.specs.declared.answer.Answer.{Answer}
-use Rattle.rules.specs.declared.answer.Answer.the-variants.{Taken, Refused}
-use Rattle.rules.specs.Answers.{number, value}
+use Rattle.terms.specs.declared.answer.Answer.{Answer}
+use Rattle.terms.specs.declared.answer.Answer.the-variants.{Taken, Refused}
+use Rattle.terms.specs.Answers.{number, value}
 use Rattle.rules.specs.Layout.{bookings, confidenceOf}
 use Rattle.rules.specs.Readings.{queryOf, acceptedOf, leadOf, sizeOf}
 use Rattle.rules.specs.Book.{lookUp, numberOf}
 use Rattle.rules.specs.Calls.{readingCall, queryCall, acceptedCall, leadCall, confidenceCall, sizeCall}
 use Rattle.rules.specs.Sound.{Ledger}
-use Rattle.rules.proofs.Calls.{refusalNumber-within, number-refused, value-refused}
-use Rattle.rules.proofs.Lookup.{found-below}
-use Rattle.rules.proofs.Readings.{query-le, accepted-le, confidence-le, lead-le, size-least, size-most}
+use Rattle.laws.proofs.Calls.{refusalNumber-within, number-refused, value-refused}
+use Rattle.laws.proofs.Lookup.{found-below}
+use Rattle.laws.proofs.Readings.{query-le, accepted-le, confidence-le, lead-le, size-least, size-most}
 use Rattle.promises.specs.Run.{outcomeOf}
 use Rattle.promises.specs.Ranges.{Between, Ranges}
 use Rattle.promises.proofs.Taken.{reading-taken}

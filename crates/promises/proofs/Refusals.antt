@@ -12,20 +12,21 @@ use lib.Dec.{eqb, leb, ltb}
 use borrow.Author.Tests.{eqb-true, eq-eqb, leb-true, le-leb, ltb-true, lt-ltb, not-true, not-false}
 use Rattle.loops.specs.Search.{any}
 use Rattle.loops.proofs.Search.{any→, →any}
-use Rattle.rules.specs.declared.setting.Setting.{Setting}
-use Rattle.rules.specs.declared.answer.Reading.{Reading}
-use Rattle.rules.specs.declared.answer.Found.{Found}
-use Rattle.rules.specs.declared.answer.Found.the-variants.{At, Absent}
-use Rattle.rules.specs.declared.answer.Refusal.{Refusal}
-use Rattle.rules.specs.declared.answer.Answer.{Answer}
-use Rattle.rules.specs.declared.answer.Answer.the-variants.{Taken, Refused}
-use Rattle.rules.specs.declared.vote.Vote.{Vote}
-use Rattle.rules.specs.Answers.{refusalNumber, number, value, leaves, done}
+use Rattle.terms.specs.declared.setting.Setting.{Setting}
+use Rattle.terms.specs.declared.answer.Reading.{Reading}
+use Rattle.terms.specs.declared.answer.Found.{Found}
+use Rattle.terms.specs.declared.answer.Found.the-variants.{At, Absent}
+use Rattle.terms.specs.declared.answer.Refusal.{Refusal}
+use Rattle.terms.specs.declared.answer.Answer.{Answer}
+use Rattle.terms.specs.declared.answer.Answer.the-variants.{Taken, Refused}
+use Rattle.terms.specs.declared.vote.Vote.{Vote}
+use Rattle.terms.specs.Answers.{refusalNumber, number, value, leaves, done}
 use Rattle.rules.specs.Layout.{size, slots, mostParents, mostBookings, bookings, settingIn, stateOf}
-use Rattle.rules.specs.Setting.{Good, isGood}
+use Rattle.terms.specs.Setting.{Good, isGood}
 use Rattle.rules.specs.IsSound.{isSound}
 use Rattle.rules.specs.Sound.{Sound}
-use Rattle.rules.specs.Votes.{voteOf, isRefused, hasRefusedVote}
+use Rattle.terms.specs.Votes.{voteOf, isRefused}
+use Rattle.rules.specs.Poll.{hasRefusedVote}
 use Rattle.rules.specs.Open.{opened}
 use Rattle.rules.specs.Book.{lookUp, isFound, isAbsent, numberOf, parentFound, hasUnknown, hasTwice, booked}
 use Rattle.rules.specs.Poll.{polled}
@@ -47,10 +48,10 @@ use Rattle.rules.specs.Calls.{
   confidenceCall,
   sizeCall,
 }
-use Rattle.rules.proofs.Calls.{value-refused, open-refused, book-refused, poll-refused}
-use Rattle.rules.proofs.Good.{isGood→Good, Good→isGood}
-use Rattle.rules.proofs.Sound.{isSound→Sound, Sound→isSound}
-use Rattle.rules.proofs.Lookup.{found-below, found-name, absent-name, found-is}
+use Rattle.laws.proofs.Calls.{value-refused, open-refused, book-refused, poll-refused}
+use Rattle.laws.proofs.Good.{isGood→Good, Good→isGood}
+use Rattle.laws.proofs.Sound.{isSound→Sound, Sound→isSound}
+use Rattle.laws.proofs.Lookup.{found-below, found-name, absent-name, found-is}
 use Rattle.promises.specs.Run.{Open, Book, Poll, Query, Accepted, Lead, Confidence, Size, outcomeOf}
 use Rattle.promises.specs.Refusals.{
   RefusedKeeps,

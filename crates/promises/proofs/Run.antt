@@ -9,7 +9,7 @@ use native.Mathlib.Nat.{add-zero, add-comm, eq-or-lt-of-le}
 use native.Mathlib.Omega.{arith}
 use Rattle.loops.specs.Total.{bit, total, count}
 use Rattle.loops.proofs.Total.{total-same, total-plus, total-more, total-zeros}
-use Rattle.rules.specs.declared.setting.Setting.{Setting}
+use Rattle.terms.specs.declared.setting.Setting.{Setting}
 use Rattle.rules.specs.Layout.{bookings, polls, confidenceOf, pollsField, confidenceField}
 use Rattle.rules.specs.Ancestry.{ancestry, isMember}
 use Rattle.rules.specs.Readings.{sizeOf}
@@ -18,8 +18,8 @@ use Rattle.rules.specs.Book.{booked, lookUp, numberOf}
 use Rattle.rules.specs.Poll.{polled, isSuccess}
 use Rattle.rules.specs.Calls.{openCall, bookCall, pollCall}
 use Rattle.rules.specs.Sound.{Ledger}
-use Rattle.rules.proofs.Opened.{opened-ledger, header-opened, field-opened, bookings-opened}
-use Rattle.rules.proofs.Ancestry.{marks→Reaches, Reaches→marks}
+use Rattle.laws.proofs.Opened.{opened-ledger, header-opened, field-opened, bookings-opened}
+use Rattle.laws.proofs.Ancestry.{marks→Reaches, Reaches→marks}
 use Rattle.promises.specs.Run.{
   Call,
   Open,

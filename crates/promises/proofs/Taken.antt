@@ -12,25 +12,25 @@ use lib.Dec.{eqb, leb, ltb}
 use borrow.Author.Tests.{eqb-true, eqb-false, leb-false, ltb-false, not-false}
 use Rattle.loops.specs.Search.{any}
 use Rattle.loops.proofs.Search.{none→}
-use Rattle.rules.specs.declared.setting.Setting.{Setting}
-use Rattle.rules.specs.declared.answer.Found.{Found}
-use Rattle.rules.specs.declared.answer.Found.the-variants.{At, Absent}
-use Rattle.rules.specs.declared.answer.Refusal.{Refusal}
-use Rattle.rules.specs.declared.answer.Answer.{Answer}
-use Rattle.rules.specs.declared.answer.Answer.the-variants.{Taken, Refused}
-use Rattle.rules.specs.Answers.{number, value, leaves}
+use Rattle.terms.specs.declared.setting.Setting.{Setting}
+use Rattle.terms.specs.declared.answer.Found.{Found}
+use Rattle.terms.specs.declared.answer.Found.the-variants.{At, Absent}
+use Rattle.terms.specs.declared.answer.Refusal.{Refusal}
+use Rattle.terms.specs.declared.answer.Answer.{Answer}
+use Rattle.terms.specs.declared.answer.Answer.the-variants.{Taken, Refused}
+use Rattle.terms.specs.Answers.{number, value, leaves}
 use Rattle.rules.specs.Layout.{size, mostBookings, mostParents, slots, bookings, nameOf, stateOf, slotOf, confidenceOf, preferredIn}
-use Rattle.rules.specs.Setting.{Good}
+use Rattle.terms.specs.Setting.{Good}
 use Rattle.rules.specs.IsSound.{isSound}
 use Rattle.rules.specs.Sound.{Ledger}
 use Rattle.rules.specs.Open.{opened}
 use Rattle.rules.specs.Book.{lookUp, numberOf, hasUnknown, hasTwice, booked}
 use Rattle.rules.specs.Poll.{polled}
 use Rattle.rules.specs.Calls.{openAnswer, openCall, tested, bookAnswer, bookCall, askedOf, pollAnswer, pollCall, readingCall}
-use Rattle.rules.proofs.Calls.{number-refused, open-refused, book-refused, poll-refused}
-use Rattle.rules.proofs.Good.{isGood→Good}
-use Rattle.rules.proofs.Sound.{isSound→Sound}
-use Rattle.rules.proofs.Lookup.{isFound-false, absent-name, found-below}
+use Rattle.laws.proofs.Calls.{number-refused, open-refused, book-refused, poll-refused}
+use Rattle.laws.proofs.Good.{isGood→Good}
+use Rattle.laws.proofs.Sound.{isSound→Sound}
+use Rattle.laws.proofs.Lookup.{isFound-false, absent-name, found-below}
 use Rattle.promises.specs.Run.{isTaken}
 
 -- a booking that no refusal stops

@@ -9,19 +9,19 @@ use native.Mathlib.Nat.{add-zero}
 use native.Mathlib.Omega.{arith}
 use lib.IntN.{ℤ, pos, _-ℤ_}
 use Rattle.loops.specs.Total.{bit, total, count}
-use Rattle.rules.specs.declared.answer.Answer.{Answer}
-use Rattle.rules.specs.declared.answer.Answer.the-variants.{Taken}
+use Rattle.terms.specs.declared.answer.Answer.{Answer}
+use Rattle.terms.specs.declared.answer.Answer.the-variants.{Taken}
 use Rattle.rules.specs.Layout.{bookings, nameOf, slotOf, confidenceOf, preferredIn}
 use Rattle.rules.specs.Ancestry.{Reaches, ancestry, isMember}
 use Rattle.rules.specs.Readings.{queryOf, acceptedOf, leadOf, rivalsMost, sizeOf}
 use Rattle.rules.specs.Sound.{Ledger}
 use Rattle.rules.specs.Calls.{readingCall, queryCall, acceptedCall, leadCall, confidenceCall, sizeCall}
-use Rattle.rules.proofs.Lookup.{found-is}
-use Rattle.rules.proofs.Tested.{reading-found}
-use Rattle.rules.proofs.Ancestry.{marks→Reaches, Reaches→marks}
+use Rattle.laws.proofs.Lookup.{found-is}
+use Rattle.laws.proofs.Tested.{reading-found}
+use Rattle.laws.proofs.Ancestry.{marks→Reaches, Reaches→marks}
 use Rattle.rules.specs.Told.{FirstArm, SecondArm}
-use Rattle.rules.proofs.Accepted.{accepted-is, accepted-genesis}
-use Rattle.rules.proofs.Readings.{query-is, rivalsMost-is}
+use Rattle.laws.proofs.Accepted.{accepted-is, accepted-genesis}
+use Rattle.laws.proofs.Readings.{query-is, rivalsMost-is}
 use Rattle.promises.specs.Told.{Sized, nobody, counts, passes, Tells, Told, ReadingsTold}
 
 module _ (w : List ℕ) (ledger : Ledger w) (i : ℕ) (below : i < bookings w) where

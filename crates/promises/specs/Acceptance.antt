@@ -4,7 +4,7 @@ use mathlib.Core.Bool.{true}
 use mathlib.Core.List.{List}
 use Prim.Native.Nat.{ℕ, _<_}
 use lib.IntN.{pos}
-use Rattle.rules.specs.declared.answer.Answer.the-variants.{Taken}
+use Rattle.terms.specs.declared.answer.Answer.the-variants.{Taken}
 use Rattle.rules.specs.Layout.{bookings, slotOf, nameOf}
 use Rattle.rules.specs.Readings.{acceptedOf}
 use Rattle.rules.specs.Calls.{acceptedCall}

@@ -6,9 +6,9 @@ use mathlib.Core.Logic.{_≢_}
 use Prim.Native.Nat.{ℕ, _<_, _≤_}
 use lib.IntN.{pos}
 use Rattle.loops.specs.Total.{total}
-use Rattle.rules.specs.declared.setting.Setting.{Setting}
-use Rattle.rules.specs.declared.answer.Answer.{Answer}
-use Rattle.rules.specs.Answers.{outcome, number, value}
+use Rattle.terms.specs.declared.setting.Setting.{Setting}
+use Rattle.terms.specs.declared.answer.Answer.{Answer}
+use Rattle.terms.specs.Answers.{outcome, number, value}
 use Rattle.rules.specs.Layout.{bookings, polls, slotOf, confidenceOf, preferredIn}
 use Rattle.rules.specs.Readings.{acceptedOf}
 use Rattle.rules.specs.Sound.{Ledger}

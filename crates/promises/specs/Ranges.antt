@@ -3,7 +3,7 @@ use mathlib.Core.Path.{_≡_}
 use mathlib.Core.List.{List}
 use Prim.Native.Nat.{ℕ, _≤_}
 use lib.IntN.{ℤ, pos, natAbs}
-use Rattle.rules.specs.Answers.{number, value}
+use Rattle.terms.specs.Answers.{number, value}
 use Rattle.rules.specs.Calls.{queryCall, acceptedCall, leadCall, confidenceCall, sizeCall}
 use Rattle.promises.specs.Run.{Call, outcomeOf}
 

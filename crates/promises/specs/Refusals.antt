@@ -5,10 +5,10 @@ use mathlib.Core.Logic.{_≢_, _⊎_}
 use Prim.Native.Nat.{ℕ, _<_, _≤_}
 use lib.IntN.{pos}
 use lib.ListN.{length, getD}
-use Rattle.rules.specs.declared.setting.Setting.{Setting}
-use Rattle.rules.specs.Answers.{number, value}
+use Rattle.terms.specs.declared.setting.Setting.{Setting}
+use Rattle.terms.specs.Answers.{number, value}
 use Rattle.rules.specs.Layout.{size, slots, mostParents, mostBookings, bookings, settingIn, nameOf, stateOf}
-use Rattle.rules.specs.Setting.{Good}
+use Rattle.terms.specs.Setting.{Good}
 use Rattle.rules.specs.Sound.{Sound}
 use Rattle.rules.specs.Calls.{openCall, bookCall, pollCall, queryCall, acceptedCall, leadCall, confidenceCall, sizeCall}
 use Rattle.rules.specs.Listing.{listCall}

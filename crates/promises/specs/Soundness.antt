@@ -3,7 +3,7 @@ use mathlib.Core.Path.{_≡_}
 use mathlib.Core.Bool.{true}
 use Prim.Native.Nat.{ℕ}
 use mathlib.Core.List.{List}
-use Rattle.rules.specs.declared.setting.Setting.{Setting}
+use Rattle.terms.specs.declared.setting.Setting.{Setting}
 use Rattle.rules.specs.Calls.{openCall}
 use Rattle.rules.specs.Sound.{Ledger}
 use Rattle.promises.specs.Run.{Call, outcomeOf, isTaken, Opening, after}

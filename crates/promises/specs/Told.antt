@@ -4,8 +4,8 @@ use mathlib.Core.List.{List}
 use mathlib.Core.Logic.{_⊎_}
 use Prim.Native.Nat.{ℕ, suc, _<_}
 use lib.IntN.{pos, _-ℤ_}
-use Rattle.rules.specs.declared.answer.Answer.{Answer}
-use Rattle.rules.specs.declared.answer.Answer.the-variants.{Taken}
+use Rattle.terms.specs.declared.answer.Answer.{Answer}
+use Rattle.terms.specs.declared.answer.Answer.the-variants.{Taken}
 use Rattle.rules.specs.Layout.{bookings, nameOf, slotOf, confidenceOf, preferredIn}
 use Rattle.rules.specs.Ancestry.{Reaches}
 use Rattle.rules.specs.Sound.{Ledger}

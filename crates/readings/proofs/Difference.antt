@@ -7,7 +7,7 @@ use lib.Signed.{mag}
 use mir.Syntax.{Width}
 use mir.Val.{SFits, hbits, toZ, ofZ}
 use mir.ValLaws.{toZ-pos, toZ-ofZ}
-use Rattle.rules.proofs.Readings.{difference-le}
+use Rattle.laws.proofs.Readings.{difference-le}
 
 mag-natAbs-le : (z : ℤ) → mag z ≤ natAbs z
 mag-natAbs-le (pos n) = omega arith

@@ -1,6 +1,6 @@
 // How many bookings there are, which has a name, and single words of one.
-use rules::answer::Found;
 use rules::layout;
+use terms::answer::Found;
 ghost use mathlib.Core.Path.{_≡_};
 ghost use Prim.Native.Nat.{_<_, _≤_};
 ghost use lib.ListN.{length};

@@ -5,9 +5,9 @@ use Prim.Native.Nat.{ℕ, _<_}
 use native.Mathlib.Omega.{arith}
 use lib.Dec.{eqb}
 use borrow.Author.Tests.{eqb-true, eqb-false, ne-eqb}
-use Rattle.rules.specs.Votes.{stateSays}
-use Rattle.rules.specs.declared.vote.State.{State}
-use Rattle.rules.specs.declared.vote.State.the-variants.{Waiting, NoChit, Chit, Unknown}
+use Rattle.terms.specs.Votes.{stateSays}
+use Rattle.terms.specs.declared.vote.State.{State}
+use Rattle.terms.specs.declared.vote.State.the-variants.{Waiting, NoChit, Chit, Unknown}
 
 -- the words that read as the state
 abbrev pub Reads : State → ℕ → Type 0

@@ -1,6 +1,6 @@
 // The header.
 use rules::layout;
-use rules::setting::Setting;
+use terms::setting::Setting;
 ghost use mathlib.Core.Path.{_≡_};
 ghost use lib.ListN.{length};
 ghost use Rattle.rules.specs.Layout.{size, settingIn};

@@ -1,7 +1,7 @@
 // A record: the genesis, any other below n, and one from n on.
 use rules::layout;
-use rules::vote;
-use rules::vote::State;
+use terms::vote;
+use terms::vote::State;
 ghost use mathlib.Core.Path.{_≡_};
 ghost use Prim.Native.Nat.{_<_};
 ghost use lib.ListN.{length};

@@ -1,8 +1,8 @@
 -- Document 01, "Cases on each side": P1 to P12, one table under one statement, computed from the definitions on whole workspaces.
 -- Every step is a call with its refusals, as a user would make it, and every reading an answer: a refusal is not taken for a 0.
-use mathlib.Core.Path.{_≡_, refl, sym, ap, fun-ext, _∙_}
+use mathlib.Core.Path.{_≡_, refl, sym, ap, ap₂, fun-ext, _∙_}
 use mathlib.Core.Bool.{Bool, true, false, _&&_}
-use mathlib.Core.List.{List, [], _∷_}
+use mathlib.Core.List.{List, [], _∷_, _++_}
 use Prim.Native.Nat.{ℕ}
 use lib.IntN.{pos, negℤ}
 use lib.ListN.{replicate}
@@ -12,12 +12,12 @@ use Rattle.loops.specs.Search.{firstFrom}
 use Rattle.loops.specs.Total.{bit, total, greatest}
 use Rattle.loops.specs.Fill.{from}
 use Rattle.loops.specs.Rows.{walkFrom}
-use Rattle.rules.specs.declared.setting.Setting.{Setting}
-use Rattle.rules.specs.declared.answer.Reading.the-variants.{Query, Accepted, Lead, Confidence, Size}
-use Rattle.rules.specs.declared.answer.Refusal.the-variants.{BadSetting}
-use Rattle.rules.specs.declared.answer.Answer.{Answer}
-use Rattle.rules.specs.declared.answer.Answer.the-variants.{Taken, Refused}
-use Rattle.rules.specs.Answers.{Outcome, done}
+use Rattle.terms.specs.declared.setting.Setting.{Setting}
+use Rattle.terms.specs.declared.answer.Reading.the-variants.{Query, Accepted, Lead, Confidence, Size}
+use Rattle.terms.specs.declared.answer.Refusal.the-variants.{BadSetting}
+use Rattle.terms.specs.declared.answer.Answer.{Answer}
+use Rattle.terms.specs.declared.answer.Answer.the-variants.{Taken, Refused}
+use Rattle.terms.specs.Answers.{Outcome, done}
 use Rattle.rules.specs.Layout.{
   size,
   bookings,
@@ -32,8 +32,10 @@ use Rattle.rules.specs.Layout.{
   pollsField,
   withField,
   withHeader,
+  lastField,
+  withEntry,
 }
-use Rattle.rules.specs.Votes.{voteOf}
+use Rattle.terms.specs.Votes.{voteOf}
 use Rattle.rules.specs.Ancestry.{ancestry, sweep, spread}
 use Rattle.rules.specs.IsSound.{
   isSound,
@@ -50,6 +52,7 @@ use Rattle.rules.specs.Book.{lookUp, hasUnknown, hasTwice, entered, book
 use Rattle.rules.specs.Poll.{polled, raiseOne, prefer, follow, settleOne}
 use Rattle.rules.specs.Readings.{queryOf, acceptOne, acceptedOf, rivalsMost, leadOf, sizeOf}
 use Rattle.rules.specs.Calls.{openCall, bookBy, pollBy, readBy, bookCall, pollCall, queryCall, acceptedCall, leadCall, confidenceCall, sizeCall}
+use Rattle.rules.proofs.Same.{sameTable, same-table}
 use Rattle.rules.proofs.Walk.{isSoundWalked, walked-is}
 
 abbrev setting : ℕ → ℕ → ℕ → ℕ → Setting
@@ -93,10 +96,13 @@ theCalls =
 abbrev is : ℕ → Answer
 is n = Taken (pos n)
 
--- what each case gives, P1 first
-unfoldable pub table : Made → List (List Answer)
-table c =
-    let unopened : List ℕ = replicate size 0 in
+abbrev unopened : List ℕ
+unopened = replicate size 0
+
+-- ---- P1 to P8 and P11: bookings 1 and 2 of slot 7, 3 below 1, and 4 below both
+
+unfoldable pub diamond : Made → List (List Answer)
+diamond c =
     let empty = openCall unopened (setting 3 2 1 2) .words in
     let booked1 = c .book empty 1 7 (0 ∷ []) .words in
     let booked2 = c .book booked1 2 7 (0 ∷ []) .words in
@@ -106,14 +112,7 @@ table c =
     let poll3 = c .poll poll2 3 (1 ∷ 0 ∷ 0 ∷ []) in
     let poll4 = c .poll (poll3 .words) 4 (1 ∷ 1 ∷ 1 ∷ []) .words in
     let poll1 = c .poll poll4 1 (1 ∷ 1 ∷ 0 ∷ []) .words in
-    let alone = c .book (c .book (openCall unopened (setting 1 1 1 2) .words) 1 7 (0 ∷ []) .words) 2 8 (1 ∷ []) .words in
-    let alone1 = c .poll alone 1 (1 ∷ []) .words in
-    let alone2 = c .poll alone1 2 (1 ∷ []) .words in
     let noes = c .poll booked4 2 (255 ∷ 255 ∷ 255 ∷ []) in
-    let rivals = c .book (c .book (c .book (openCall unopened (setting 1 1 1 1) .words) 1 7 (0 ∷ []) .words) 2 8 (1 ∷ []) .words) 3 7 (0 ∷ []) .words in
-    let rivals1 = c .poll (c .poll rivals 1 (1 ∷ []) .words) 2 (1 ∷ []) .words in
-    let rivals3 = c .poll rivals1 3 (1 ∷ []) .words in
-    let both = c .poll (c .book rivals3 4 9 (1 ∷ 3 ∷ []) .words) 4 (1 ∷ []) .words in
     -- P1: before any poll, query of 1 to 4
     (c .query booked4 1 ∷ c .query booked4 2 ∷ c .query booked4 3 ∷ c .query booked4 4 ∷ [])
     -- P2: slot 7 prefers 2, its counter, query of 3
@@ -133,25 +132,12 @@ table c =
     ∷ (is (confidences poll1) ∷ c .members poll1 2 ∷ c .members poll1 4 ∷ c .members poll1 1 ∷ [])
     -- P8: sizes of 4 and of the genesis
     ∷ (c .members poll1 4 ∷ c .members poll1 0 ∷ [])
-    -- P9: after the first poll the counter, and accepted of 1
-    ∷ (is (counterIn alone1 7) ∷ c .accepted alone1 1 ∷ [])
-    -- P10: after the second
-    ∷ (is (counterIn alone2 7) ∷ c .accepted alone2 1 ∷ [])
     -- P11: three noes: taken, and the state is 1
     ∷ (noes .answer ∷ is (stateOf (noes .words) 2) ∷ [])
-    -- P12: k = 2 with a = 1, and with a = 2
-    ∷ (openCall unopened (setting 2 1 1 2) .answer ∷ openCall unopened (setting 2 2 1 2) .answer ∷ [])
-    -- beside P1 to P12: rivals 1 and 3 of slot 7. Its four words and accepted of 1 and 3, after polls of 1 and 2, and of 3
-    ∷ (is (preferredIn rivals1 7) ∷ is (lastIn rivals1 7) ∷ is (counterIn rivals1 7) ∷ is (heldIn rivals1 7)
-    ∷ c .accepted rivals1 1 ∷ c .accepted rivals1 3 ∷ [])
-    ∷ (is (preferredIn rivals3 7) ∷ is (lastIn rivals3 7) ∷ is (counterIn rivals3 7) ∷ c .accepted rivals3 1 ∷ [])
-    -- and one poll that reaches both: in rising number, so 3 is last
-    ∷ (is (lastIn both 7) ∷ is (counterIn both 7) ∷ [])
     ∷ []
 
--- what document 01 says, P1 first
-unfoldable pub says : List (List Answer)
-says =
+unfoldable pub diamondSays : List (List Answer)
+diamondSays =
     (is 1 ∷ is 0 ∷ is 1 ∷ is 0 ∷ [])
     ∷ (is 2 ∷ is 0 ∷ is 0 ∷ [])
     ∷ (Taken (negℤ (pos 1)) ∷ is 1 ∷ [])
@@ -160,14 +146,67 @@ says =
     ∷ (is 2 ∷ is 2 ∷ is 2 ∷ is 0 ∷ is 0 ∷ [])
     ∷ (is 8 ∷ is 2 ∷ is 4 ∷ is 2 ∷ [])
     ∷ (is 4 ∷ is 1 ∷ [])
-    ∷ (is 1 ∷ is 0 ∷ [])
-    ∷ (is 2 ∷ is 1 ∷ [])
     ∷ (done ∷ is 1 ∷ [])
+    ∷ []
+
+-- ---- P9, P10 and P12: a booking alone in its slot, and two settings
+
+unfoldable pub alone : Made → List (List Answer)
+alone c =
+    let booked = c .book (c .book (openCall unopened (setting 1 1 1 2) .words) 1 7 (0 ∷ []) .words) 2 8 (1 ∷ []) .words in
+    let poll1 = c .poll booked 1 (1 ∷ []) .words in
+    let poll2 = c .poll poll1 2 (1 ∷ []) .words in
+    -- P9: after the first poll the counter, and accepted of 1
+    (is (counterIn poll1 7) ∷ c .accepted poll1 1 ∷ [])
+    -- P10: after the second
+    ∷ (is (counterIn poll2 7) ∷ c .accepted poll2 1 ∷ [])
+    -- P12: k = 2 with a = 1, and with a = 2
+    ∷ (openCall unopened (setting 2 1 1 2) .answer ∷ openCall unopened (setting 2 2 1 2) .answer ∷ [])
+    ∷ []
+
+unfoldable pub aloneSays : List (List Answer)
+aloneSays =
+    (is 1 ∷ is 0 ∷ [])
+    ∷ (is 2 ∷ is 1 ∷ [])
     ∷ (Refused BadSetting ∷ done ∷ [])
-    ∷ (is 1 ∷ is 1 ∷ is 2 ∷ is 2 ∷ is 1 ∷ is 0 ∷ [])
+    ∷ []
+
+-- ---- beside P1 to P12: rivals 1 and 3 of slot 7, and 2 below 1
+
+unfoldable pub rivals : Made → List (List Answer)
+rivals c =
+    let booked = c .book (c .book (c .book (openCall unopened (setting 1 1 1 1) .words) 1 7 (0 ∷ []) .words) 2 8 (1 ∷ []) .words) 3 7 (0 ∷ []) .words in
+    let poll2 = c .poll (c .poll booked 1 (1 ∷ []) .words) 2 (1 ∷ []) .words in
+    let parted = withEntry poll2 7 lastField 3 in
+    let poll3 = c .poll poll2 3 (1 ∷ []) .words in
+    let poll4 = c .poll (c .book poll3 4 9 (1 ∷ 3 ∷ []) .words) 4 (1 ∷ []) .words in
+    -- after the polls of 1 and 2: the slot's four words, and accepted of 1 and 3
+    (is (preferredIn poll2 7) ∷ is (lastIn poll2 7) ∷ is (counterIn poll2 7) ∷ is (heldIn poll2 7) ∷ c .accepted poll2 1 ∷ c .accepted poll2 3 ∷ [])
+    -- were 3 the last one by that counter: neither rival is both preferred and last, and neither is accepted
+    ∷ (c .accepted parted 1 ∷ c .accepted parted 3 ∷ [])
+    -- the poll of 3 makes it last, with a counter of 0
+    ∷ (is (preferredIn poll3 7) ∷ is (lastIn poll3 7) ∷ is (counterIn poll3 7) ∷ c .accepted poll3 1 ∷ [])
+    -- a poll that reaches both: in rising number, so 3 is last
+    ∷ (is (lastIn poll4 7) ∷ is (counterIn poll4 7) ∷ [])
+    ∷ []
+
+unfoldable pub rivalsSay : List (List Answer)
+rivalsSay =
+    (is 1 ∷ is 1 ∷ is 2 ∷ is 2 ∷ is 1 ∷ is 0 ∷ [])
+    ∷ (is 0 ∷ is 0 ∷ [])
     ∷ (is 1 ∷ is 3 ∷ is 0 ∷ is 0 ∷ [])
     ∷ (is 3 ∷ is 0 ∷ [])
     ∷ []
+
+-- ---- the whole table, by the ledgers that the cases are made on
+
+-- what the cases give
+abbrev pub table : Made → List (List Answer)
+table c = diamond c ++ alone c ++ rivals c
+
+-- what document 01 says
+abbrev pub says : List (List Answer)
+says = diamondSays ++ aloneSays ++ rivalsSay
 
 -- ---- computed with the test that walks
 
@@ -183,11 +222,25 @@ made sound =
       members = readBy sound Size;
     }
 
-walked : table (made isSoundWalked) ≡ says
-unfolding table says same isSoundWalked headerGood genesisGood bookingGood parentsGood stateGood chits bookingsOf opened openWord lookUp hasUnknown hasTwice entered booked polled raiseOne prefer follow settleOne queryOf acceptOne acceptedOf rivalsMost leadOf sizeOf ancestry sweep spread voteOf openCall upTo firstFrom total greatest from walkFrom
-walked = refl
+diamond-walked : sameTable (diamond (made isSoundWalked)) diamondSays ≡ true
+unfolding diamond diamondSays same isSoundWalked headerGood genesisGood bookingGood parentsGood stateGood chits bookingsOf opened openWord lookUp hasUnknown hasTwice entered booked polled raiseOne prefer follow settleOne queryOf acceptOne acceptedOf rivalsMost leadOf sizeOf ancestry sweep spread voteOf openCall upTo firstFrom total greatest from walkFrom
+diamond-walked = refl
+
+alone-walked : sameTable (alone (made isSoundWalked)) aloneSays ≡ true
+unfolding alone aloneSays same isSoundWalked headerGood genesisGood bookingGood parentsGood stateGood chits bookingsOf opened openWord lookUp hasUnknown hasTwice entered booked polled raiseOne prefer follow settleOne queryOf acceptOne acceptedOf rivalsMost leadOf sizeOf ancestry sweep spread voteOf openCall upTo firstFrom total greatest from walkFrom
+alone-walked = refl
+
+rivals-walked : sameTable (rivals (made isSoundWalked)) rivalsSay ≡ true
+unfolding rivals rivalsSay same isSoundWalked headerGood genesisGood bookingGood parentsGood stateGood chits bookingsOf opened openWord lookUp hasUnknown hasTwice entered booked polled raiseOne prefer follow settleOne queryOf acceptOne acceptedOf rivalsMost leadOf sizeOf ancestry sweep spread voteOf openCall upTo firstFrom total greatest from walkFrom
+rivals-walked = refl
+
+-- one ledger's rows, by the calls of the law
+rows-by : (rows : Made → List (List Answer)) (said : List (List Answer)) → sameTable (rows (made isSoundWalked)) said ≡ true → rows theCalls ≡ said
+unfolding theCalls bookCall pollCall queryCall acceptedCall leadCall confidenceCall sizeCall
+rows-by rows said walked = ap (λ sound. rows (made sound)) (fun-ext (λ w. sym (walked-is w))) ∙ same-table (rows (made isSoundWalked)) said walked
 
 -- the statement: the cases are as document 01 says
 pub cases : table theCalls ≡ says
-unfolding theCalls bookCall pollCall queryCall acceptedCall leadCall confidenceCall sizeCall
-cases = ap (λ sound. table (made sound)) (fun-ext (λ w. sym (walked-is w))) ∙ walked
+cases =
+    ap₂ _++_ (ap₂ _++_ (rows-by diamond diamondSays diamond-walked) (rows-by alone aloneSays alone-walked))
+    (rows-by rivals rivalsSay rivals-walked)

@@ -1,19 +1,4 @@
--- Laws of the definitions in specs/. They assume nothing.
-pub mod Words
-pub mod Bools
-pub mod Good
-pub mod Lookup
-pub mod Bookings
-pub mod Entries
-pub mod Sound
-pub mod Slots
-pub mod Opened
-pub mod Ancestry
-pub mod Accepted
-pub mod Readings
-pub mod Noted
-pub mod Raised
-pub mod Calls
-pub mod Tested
+-- The cases of document 01, computed from the definitions in specs/.
+pub mod Same
 pub mod Walk
 pub mod Cases

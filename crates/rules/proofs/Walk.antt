@@ -4,6 +4,7 @@ use mathlib.Core.Bool.{Bool, _&&_, _||_, not, cond}
 use mathlib.Core.List.{List}
 use Prim.Native.Nat.{ℕ, _+_, _*_}
 use native.Mathlib.Nat.{zero-add}
+use native.Mathlib.Omega.{arith}
 use lib.ListN.{getD, drop}
 use lib.Seq.{getD-drop}
 use lib.Dec.{ltb, leb, eqb}
@@ -40,7 +41,7 @@ module _ (b z k : ℕ) (good : ℕ → List ℕ → Bool) (w : List ℕ) where
 
 -- a row of the records, whose words stand at the start of l
 zeroRow : List ℕ → ℕ → List ℕ → Bool
-zeroRow w i l = ltb i (bookings w) || all (λ f. eqb (getD l f 0) 0) recordWords
+zeroRow w i l = ltb i (bookings w) || allRows 0 1 recordWords (λ f r. eqb (getD r 0 0) 0) l
 
 -- how many of the n slots of the list are s
 among : List ℕ → ℕ → ℕ → ℕ
@@ -61,12 +62,19 @@ isSoundWalked w =
     && (all (recordGood w) (bookings w) && ordinalsHeld w && allRows headerWords recordWords mostBookings (zeroRow w) w)
     && allRows slotsStart slotWords slots (entryRow w taken) w
 
+zero-words : (l : List ℕ) → allRows 0 1 recordWords (λ f r. eqb (getD r 0 0) 0) l ≡ all (λ f. eqb (getD l f 0) 0) recordWords
+zero-words l =
+    allRows-is 0 1 recordWords (λ f r. eqb (getD r 0 0) 0) l
+    ∙ ap (λ p. all p recordWords)
+    (fun-ext (λ f. ap (λ x. eqb x 0) (getD-drop (0 + 1 * f) l 0 0 ∙ ap (λ j. getD l j 0) (omega arith))))
+
 zero-rows : (w : List ℕ) → allRows headerWords recordWords mostBookings (zeroRow w) w ≡ all (λ i. ltb i (bookings w) || recordZero w i) mostBookings
 unfolding zeroRow
 zero-rows w =
     allRows-is headerWords recordWords mostBookings (zeroRow w) w
     ∙ ap (λ p. all p mostBookings)
-    (fun-ext (λ i. ap (λ p. ltb i (bookings w) || all p recordWords) (fun-ext (λ f. ap (λ x. eqb x 0) (getD-drop (headerWords + recordWords * i) w f 0)))))
+    (fun-ext (λ i. ap (λ z. ltb i (bookings w) || z) (zero-words (drop (headerWords + recordWords * i) w)
+    ∙ ap (λ p. all p recordWords) (fun-ext (λ f. ap (λ x. eqb x 0) (getD-drop (headerWords + recordWords * i) w f 0))))))
 
 -- the slots of the records below n
 abbrev taken : List ℕ → List ℕ

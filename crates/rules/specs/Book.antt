@@ -6,8 +6,8 @@ use lib.ListN.{length, getD}
 use lib.Seq.{sets}
 use lib.Dec.{ltb, eqb}
 use Rattle.loops.specs.Search.{first, any}
-use Rattle.rules.specs.declared.answer.Found.{Found}
-use Rattle.rules.specs.declared.answer.Found.the-variants.{At, Absent}
+use Rattle.terms.specs.declared.answer.Found.{Found}
+use Rattle.terms.specs.declared.answer.Found.the-variants.{At, Absent}
 use Rattle.rules.specs.Layout.{none, bookings, nameOf, recordAt, slotAt, heldIn, heldField, bookingsField, withEntry, withHeader}
 
 -- ---- looking a name up

@@ -6,14 +6,14 @@ use mathlib.Core.List.{List}
 use lib.IntN.{ℤ}
 use lib.ListN.{length}
 use lib.Dec.{eqb, leb, ltb}
-use Rattle.rules.specs.declared.setting.Setting.{Setting}
-use Rattle.rules.specs.declared.answer.Reading.{Reading}
-use Rattle.rules.specs.declared.answer.Reading.the-variants.{Query, Accepted, Lead, Confidence, Size}
-use Rattle.rules.specs.declared.answer.Found.{Found}
-use Rattle.rules.specs.declared.answer.Found.the-variants.{At, Absent}
-use Rattle.rules.specs.declared.answer.Answer.{Answer}
-use Rattle.rules.specs.declared.answer.Answer.the-variants.{Taken, Refused}
-use Rattle.rules.specs.declared.answer.Refusal.the-variants.{
+use Rattle.terms.specs.declared.setting.Setting.{Setting}
+use Rattle.terms.specs.declared.answer.Reading.{Reading}
+use Rattle.terms.specs.declared.answer.Reading.the-variants.{Query, Accepted, Lead, Confidence, Size}
+use Rattle.terms.specs.declared.answer.Found.{Found}
+use Rattle.terms.specs.declared.answer.Found.the-variants.{At, Absent}
+use Rattle.terms.specs.declared.answer.Answer.{Answer}
+use Rattle.terms.specs.declared.answer.Answer.the-variants.{Taken, Refused}
+use Rattle.terms.specs.declared.answer.Refusal.the-variants.{
   WrongLength,
   NotSound,
   BadSetting,
@@ -29,13 +29,12 @@ use Rattle.rules.specs.declared.answer.Refusal.the-variants.{
   BadVote,
 }
 use Rattle.rules.specs.Layout.{size, slots, mostParents, mostBookings, bookings, settingIn, stateOf}
-use Rattle.rules.specs.Setting.{isGood}
-use Rattle.rules.specs.Answers.{Outcome, leaves, done}
-use Rattle.rules.specs.Votes.{hasRefusedVote}
+use Rattle.terms.specs.Setting.{isGood}
+use Rattle.terms.specs.Answers.{Outcome, leaves, done}
 use Rattle.rules.specs.IsSound.{isSound}
 use Rattle.rules.specs.Open.{opened}
 use Rattle.rules.specs.Book.{lookUp, isFound, numberOf, hasUnknown, hasTwice, booked}
-use Rattle.rules.specs.Poll.{polled}
+use Rattle.rules.specs.Poll.{hasRefusedVote, polled}
 use Rattle.rules.specs.Readings.{readingOf}
 
 -- ---- open: 1, 3

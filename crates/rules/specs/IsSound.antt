@@ -6,7 +6,7 @@ use mathlib.Core.List.{List}
 use lib.Dec.{ltb, leb, eqb}
 use Rattle.loops.specs.Search.{all, any}
 use Rattle.loops.specs.Total.{count}
-use Rattle.rules.specs.Setting.{isGood}
+use Rattle.terms.specs.Setting.{isGood}
 use Rattle.rules.specs.Layout.{
   mostBookings,
   slots,

@@ -3,7 +3,7 @@
 use Prim.Native.Nat.{ℕ, _+_, _*_}
 use mathlib.Core.List.{List}
 use lib.ListN.{getD, set}
-use Rattle.rules.specs.declared.setting.Setting.{Setting}
+use Rattle.terms.specs.declared.setting.Setting.{Setting}
 
 -- ---- numbers that bound it
 

@@ -1,9 +1,6 @@
 -- THE LAW: document 01 as definitions over the workspace as a list of words, a file for each of its sections.
 -- All that a reader has to believe is here.
 pub mod Layout
-pub mod Setting
-pub mod Answers
-pub mod Votes
 pub mod Ancestry
 pub mod IsSound
 pub mod Sound

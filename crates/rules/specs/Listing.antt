@@ -2,8 +2,8 @@
 use Prim.Native.Nat.{ℕ}
 use mathlib.Core.List.{List, [], _∷_}
 use Rattle.loops.specs.Total.{bit}
-use Rattle.rules.specs.declared.answer.Answer.{Answer}
-use Rattle.rules.specs.Answers.{done}
+use Rattle.terms.specs.declared.answer.Answer.{Answer}
+use Rattle.terms.specs.Answers.{done}
 use Rattle.rules.specs.Layout.{bookings, slotOf, stateOf, confidenceOf}
 use Rattle.rules.specs.IsSound.{isSound}
 use Rattle.rules.specs.Readings.{isPreferred, acceptedOf}

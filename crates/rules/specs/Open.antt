@@ -5,7 +5,7 @@ use mathlib.Core.List.{List, [], _∷_}
 use lib.ListN.{getD, replicate}
 use lib.Dec.{ltb, eqb}
 use Rattle.loops.specs.Fill.{from}
-use Rattle.rules.specs.declared.setting.Setting.{Setting}
+use Rattle.terms.specs.declared.setting.Setting.{Setting}
 use Rattle.rules.specs.Layout.{headerWords, recordWords, slotWords, slotsStart, size, none}
 
 -- n = 1, the setting, p = 0

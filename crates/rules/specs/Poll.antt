@@ -1,10 +1,13 @@
--- Document 01, "Poll": what a completed poll does to the words.
+-- Document 01, "Poll": how many votes say yes, and what a completed poll does to the words.
 use Prim.Native.Nat.{ℕ, _+_}
 use mathlib.Core.Bool.{Bool, cond}
 use mathlib.Core.List.{List}
+use lib.ListN.{length, getD}
 use lib.Dec.{eqb, ltb, leb}
 use Rattle.loops.specs.Turns.{upTo}
-use Rattle.rules.specs.Votes.{yesVotes}
+use Rattle.loops.specs.Search.{any}
+use Rattle.loops.specs.Total.{count}
+use Rattle.terms.specs.Votes.{voteOf, isYes, isRefused}
 use Rattle.rules.specs.Ancestry.{ancestry, isMember}
 use Rattle.rules.specs.Layout.{
   bookings,
@@ -26,6 +29,13 @@ use Rattle.rules.specs.Layout.{
   withField,
   withEntry,
 }
+
+-- a silent station counts neither way, and a no takes no yes away
+abbrev pub yesVotes : List ℕ → ℕ
+yesVotes votes = count (λ j. isYes (voteOf (getD votes j 0))) (length votes)
+
+abbrev pub hasRefusedVote : List ℕ → Bool
+hasRefusedVote votes = any (λ j. isRefused (voteOf (getD votes j 0))) (length votes)
 
 -- the poll succeeds exactly if the yes votes number a or more
 abbrev pub isSuccess : List ℕ → List ℕ → Bool

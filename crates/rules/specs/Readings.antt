@@ -7,8 +7,8 @@ use lib.Dec.{eqb, ltb}
 use Rattle.loops.specs.Turns.{upTo}
 use Rattle.loops.specs.Search.{all}
 use Rattle.loops.specs.Total.{bit, count, greatest}
-use Rattle.rules.specs.declared.answer.Reading.{Reading}
-use Rattle.rules.specs.declared.answer.Reading.the-variants.{Query, Accepted, Lead, Confidence, Size}
+use Rattle.terms.specs.declared.answer.Reading.{Reading}
+use Rattle.terms.specs.declared.answer.Reading.the-variants.{Query, Accepted, Lead, Confidence, Size}
 use Rattle.rules.specs.Ancestry.{ancestry, isMember, mark, unmarked}
 use Rattle.rules.specs.Layout.{
   mostParents,

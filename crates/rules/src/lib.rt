@@ -1,5 +1,2 @@
-// THE LAW, as code sees it: the types that every crate above shares. What each means is in specs/, in the order of document 01.
-pub mod answer;
+// THE LAW. What code shares of it is where each word stands; the rules are in specs/, in the order of document 01.
 pub mod layout;
-pub mod setting;
-pub mod vote;

@@ -6,7 +6,7 @@ use lib.ListN.{length, getD}
 use lib.Dec.{eqb}
 use Rattle.loops.specs.Search.{all}
 use Rattle.text.specs.Bytes.{bytes}
-use Rattle.rules.specs.declared.answer.Reading.the-variants.{Query, Accepted, Lead, Confidence, Size}
+use Rattle.terms.specs.declared.answer.Reading.the-variants.{Query, Accepted, Lead, Confidence, Size}
 use Rattle.scan.specs.declared.keyword.Keyword.{Keyword}
 use Rattle.scan.specs.declared.keyword.Keyword.the-variants.{Open, Book, Poll, Read, List as ListAll, Unknown}
 

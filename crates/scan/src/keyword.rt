@@ -1,5 +1,5 @@
 // The word that begins a line.
-use rules::answer::Reading;
+use terms::answer::Reading;
 ghost use mathlib.Core.Path.{_≡_};
 ghost use mathlib.Core.Bool.{cond};
 ghost use Rattle.scan.specs.Keywords.{isSame, keywordOf, readingOf};

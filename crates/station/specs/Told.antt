@@ -3,9 +3,9 @@ use Prim.Native.Nat.{ℕ}
 use mathlib.Core.Path.{_≡_}
 use mathlib.Core.List.{List}
 use lib.IntN.{ℤ}
-use Rattle.rules.specs.declared.answer.Answer.{Answer}
-use Rattle.rules.specs.declared.setting.Setting.{Setting}
-use Rattle.rules.specs.Answers.{Outcome, number, value}
+use Rattle.terms.specs.declared.answer.Answer.{Answer}
+use Rattle.terms.specs.declared.setting.Setting.{Setting}
+use Rattle.terms.specs.Answers.{Outcome, number, value}
 
 -- the number r returned and the value v written are those of the answer
 pub record Told (a : Answer) (r : ℕ) (v : ℤ) : Type 0 where

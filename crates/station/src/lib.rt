@@ -1,7 +1,7 @@
 // THE C FACE: the calls of the ledger under names that C and Rust link, declared in include/filzhammer.h.
 // Each returns the call's number, writes its value through the last pointer, and leaves the call's words.
-use rules::answer::Answer;
-use rules::setting::Setting;
+use terms::answer::Answer;
+use terms::setting::Setting;
 ghost use Rattle.rules.specs.Calls.{openCall, bookCall, pollCall, queryCall, acceptedCall, leadCall, confidenceCall, sizeCall};
 ghost use Rattle.station.specs.Told.{Told, Left, settingOf};
 

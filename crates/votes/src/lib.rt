@@ -1,9 +1,10 @@
 // The votes of a poll: how many say yes, and whether one is refused.
-use rules::vote;
-use rules::vote::Vote;
+use terms::vote;
+use terms::vote::Vote;
 ghost use mathlib.Core.Path.{_≡_};
 ghost use Rattle.loops.specs.Total.{bit};
-ghost use Rattle.rules.specs.Votes.{voteOf, isYes, isRefused, yesVotes, hasRefusedVote};
+ghost use Rattle.terms.specs.Votes.{voteOf, isYes, isRefused};
+ghost use Rattle.rules.specs.Poll.{yesVotes, hasRefusedVote};
 
 // 1 for a yes; a no takes nothing away, and silence counts neither way.
 fn yes_bit(byte: u8) -> usize

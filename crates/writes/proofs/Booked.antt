@@ -7,14 +7,14 @@ use native.Mathlib.Omega.{arith}
 use lib.ListN.{length}
 use lib.Dec.{eqb, leb, ltb}
 use borrow.Author.Tests.{eqb-false, leb-false, ltb-false}
-use Rattle.rules.specs.declared.answer.Answer.the-variants.{Refused}
-use Rattle.rules.specs.declared.answer.Refusal.the-variants.{NameTaken, BadSlot, BadParents, UnknownParent, ParentTwice, Full}
+use Rattle.terms.specs.declared.answer.Answer.the-variants.{Refused}
+use Rattle.terms.specs.declared.answer.Refusal.the-variants.{NameTaken, BadSlot, BadParents, UnknownParent, ParentTwice, Full}
 use Rattle.rules.specs.Layout.{slots, mostParents, mostBookings, bookings}
-use Rattle.rules.specs.Answers.{outcome, done}
+use Rattle.terms.specs.Answers.{outcome, done}
 use Rattle.rules.specs.Sound.{Ledger}
 use Rattle.rules.specs.Book.{lookUp, isFound, hasUnknown, hasTwice, booked}
 use Rattle.rules.specs.Calls.{bookCall}
-use Rattle.rules.proofs.Tested.{tested-known}
+use Rattle.laws.proofs.Tested.{tested-known}
 use Rattle.writes.specs.Parents.{parentsCall}
 
 module _ (w : List ℕ) (name slot : ℕ) (parents : List ℕ) where

@@ -8,11 +8,11 @@ use lib.ListN.{length, replicate}
 use borrow.Author.Tests.{ltb-false}
 use Rattle.loops.specs.Turns.{upTo}
 use Rattle.loops.proofs.Search.{first-le}
-use Rattle.rules.specs.declared.answer.Answer.{Answer}
-use Rattle.rules.specs.declared.answer.Answer.the-variants.{Refused}
-use Rattle.rules.specs.declared.answer.Refusal.the-variants.{UnknownParent}
+use Rattle.terms.specs.declared.answer.Answer.{Answer}
+use Rattle.terms.specs.declared.answer.Answer.the-variants.{Refused}
+use Rattle.terms.specs.declared.answer.Refusal.the-variants.{UnknownParent}
 use Rattle.rules.specs.Layout.{mostParents, none}
-use Rattle.rules.specs.Answers.{done}
+use Rattle.terms.specs.Answers.{done}
 use Rattle.rules.specs.Book.{isAbsent, parentFound, hasUnknown}
 use Rattle.booking.specs.Numbered.{parentNumbers}
 use Rattle.writes.specs.Parents.{firstUnknown, withNumbers, Looked, isRefusal}

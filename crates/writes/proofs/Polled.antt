@@ -5,17 +5,17 @@ use mathlib.Core.List.{List}
 use Prim.Native.Nat.{ℕ}
 use lib.ListN.{length}
 use lib.Dec.{eqb}
-use Rattle.rules.specs.declared.answer.Found.the-variants.{At, Absent}
-use Rattle.rules.specs.declared.answer.Answer.the-variants.{Refused}
-use Rattle.rules.specs.declared.answer.Refusal.the-variants.{UnknownName, NotWaiting, WrongVotes, BadVote}
+use Rattle.terms.specs.declared.answer.Found.the-variants.{At, Absent}
+use Rattle.terms.specs.declared.answer.Answer.the-variants.{Refused}
+use Rattle.terms.specs.declared.answer.Refusal.the-variants.{UnknownName, NotWaiting, WrongVotes, BadVote}
 use Rattle.rules.specs.Layout.{settingIn, stateOf}
-use Rattle.rules.specs.Answers.{outcome, done}
-use Rattle.rules.specs.Votes.{hasRefusedVote}
+use Rattle.terms.specs.Answers.{outcome, done}
+use Rattle.rules.specs.Poll.{hasRefusedVote}
 use Rattle.rules.specs.Sound.{Ledger}
 use Rattle.rules.specs.Book.{lookUp}
 use Rattle.rules.specs.Poll.{polled}
 use Rattle.rules.specs.Calls.{pollCall}
-use Rattle.rules.proofs.Tested.{tested-known}
+use Rattle.laws.proofs.Tested.{tested-known}
 
 module _ (w : List ℕ) (name : ℕ) (votes : List ℕ) (ledger : Ledger w) where
   pub poll-absent : lookUp w name ≡ Absent → outcome (Refused UnknownName) w ≡ pollCall w name votes

@@ -3,9 +3,9 @@ use mathlib.Core.Path.{_≡_, refl, ap, _∙_}
 use mathlib.Core.Bool.{Bool, true, false, not, cond}
 use Prim.Native.Nat.{ℕ}
 use lib.Dec.{eqb}
-use Rattle.rules.specs.declared.vote.State.{State}
-use Rattle.rules.specs.declared.vote.State.the-variants.{Waiting, NoChit, Chit, Unknown}
-use Rattle.rules.specs.Votes.{stateSays}
+use Rattle.terms.specs.declared.vote.State.{State}
+use Rattle.terms.specs.declared.vote.State.the-variants.{Waiting, NoChit, Chit, Unknown}
+use Rattle.terms.specs.Votes.{stateSays}
 
 abbrev pub isOver : State → Bool
 isOver Waiting = false

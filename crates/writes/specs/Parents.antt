@@ -7,11 +7,11 @@ use lib.ListN.{length, set}
 use lib.Dec.{eqb}
 use Rattle.loops.specs.Search.{first}
 use Rattle.loops.specs.Turns.{upTo}
-use Rattle.rules.specs.declared.answer.Answer.{Answer}
-use Rattle.rules.specs.declared.answer.Answer.the-variants.{Taken, Refused}
-use Rattle.rules.specs.declared.answer.Refusal.the-variants.{UnknownParent, ParentTwice, Full}
+use Rattle.terms.specs.declared.answer.Answer.{Answer}
+use Rattle.terms.specs.declared.answer.Answer.the-variants.{Taken, Refused}
+use Rattle.terms.specs.declared.answer.Refusal.the-variants.{UnknownParent, ParentTwice, Full}
 use Rattle.rules.specs.Layout.{bookings, mostBookings}
-use Rattle.rules.specs.Answers.{Outcome, leaves, done}
+use Rattle.terms.specs.Answers.{Outcome, leaves, done}
 use Rattle.rules.specs.Book.{isAbsent, numberOf, parentFound, hasUnknown, hasTwice, booked}
 
 -- the first parent whose name isn't booked; how many parents there are where each is

@@ -1,15 +1,15 @@
 // A booking on a ledger: each parent's name is looked up, and the first refusal that applies is given.
 use booking::naming;
 use booking::writing;
-use rules::answer::Answer;
-use rules::answer::Found;
-use rules::answer::Refusal;
 use rules::layout;
+use terms::answer::Answer;
+use terms::answer::Found;
+use terms::answer::Refusal;
 ghost use mathlib.Core.Path.{_≡_};
 ghost use Prim.Native.Nat.{_<_, _≤_};
 ghost use lib.ListN.{length};
 ghost use Rattle.rules.specs.Layout.{slots, mostParents};
-ghost use Rattle.rules.specs.Answers.{outcome};
+ghost use Rattle.terms.specs.Answers.{outcome};
 ghost use Rattle.rules.specs.Sound.{Ledger};
 ghost use Rattle.rules.specs.Book.{lookUp, isFound};
 ghost use Rattle.rules.specs.Calls.{bookCall};

@@ -1,11 +1,11 @@
 // A completed poll on a ledger: the first refusal that applies is given, or the poll is written.
 use polling::writing;
-use rules::answer::Answer;
-use rules::answer::Found;
-use rules::answer::Refusal;
 use rules::layout;
-use rules::vote;
-use rules::vote::State;
+use terms::answer::Answer;
+use terms::answer::Found;
+use terms::answer::Refusal;
+use terms::vote;
+use terms::vote::State;
 use votes;
 ghost use mathlib.Core.Path.{_≡_};
 ghost use Prim.Native.Nat.{_<_};
@@ -13,7 +13,7 @@ ghost use mathlib.Core.Bool.{not};
 ghost use lib.ListN.{length};
 ghost use lib.Dec.{eqb};
 ghost use Rattle.rules.specs.Layout.{size, mostBookings, bookings, stateOf};
-ghost use Rattle.rules.specs.Answers.{outcome};
+ghost use Rattle.terms.specs.Answers.{outcome};
 ghost use Rattle.rules.specs.Sound.{Ledger};
 ghost use Rattle.rules.specs.Poll.{isSuccess, polled};
 ghost use Rattle.rules.specs.Calls.{pollCall};

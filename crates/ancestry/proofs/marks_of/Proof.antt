@@ -2,7 +2,7 @@
 use mathlib.Core.Path.{ap, _∙_}
 use borrow.Author.Needs.{needs}
 use Rattle.rules.specs.Ancestry.{sweep}
-use Rattle.rules.proofs.Ancestry.{sweep-all}
+use Rattle.laws.proofs.Ancestry.{sweep-all}
 use Rattle.ancestry.proofs.marks_of.Statement.{statement}
 use Rattle.ancestry.proofs.marks_of.Tie as tie
 

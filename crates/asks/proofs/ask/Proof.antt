@@ -3,9 +3,9 @@ use mathlib.Core.Path.{sym, ap, _∙_}
 use mir.Syntax.{w64}
 use mir.ValLaws.{toZ-ofZ}
 use borrow.Author.Needs.{needs}
-use Rattle.rules.specs.declared.answer.Answer.the-variants.{Taken}
-use Rattle.rules.proofs.Lookup.{found-below}
-use Rattle.rules.proofs.Tested.{reading-found, reading-absent}
+use Rattle.terms.specs.declared.answer.Answer.the-variants.{Taken}
+use Rattle.laws.proofs.Lookup.{found-below}
+use Rattle.laws.proofs.Tested.{reading-found, reading-absent}
 use Rattle.rules.specs.Readings.{readingOf}
 use Rattle.asks.proofs.ask.Statement.{statement}
 use Rattle.asks.proofs.ask.Tie as tie

@@ -5,7 +5,7 @@ use mir.Syntax.{w64}
 use mir.ValLaws.{toZ-pos}
 use native.Mathlib.Omega.{arith}
 use borrow.Author.Needs.{needs}
-use Rattle.rules.proofs.Readings.{size-most}
+use Rattle.laws.proofs.Readings.{size-most}
 use Rattle.asks.proofs.size_value.Statement.{statement}
 use Rattle.asks.proofs.size_value.Tie as tie
 

@@ -1,7 +1,7 @@
 -- A workspace that is known to be sound is asked; any other is refused.
 use mathlib.Core.Path.{sym, _∙_}
 use borrow.Author.Needs.{needs}
-use Rattle.rules.proofs.Tested.{tested-sound}
+use Rattle.laws.proofs.Tested.{tested-sound}
 use Rattle.desk.proofs.Known.{known-ledger}
 use Rattle.desk.proofs.read.Statement.{statement}
 use Rattle.desk.proofs.read.Tie as tie

@@ -1,10 +1,10 @@
 -- A good setting opens the ledger, which is then known to be sound; any other is refused, and every word stays.
 use mathlib.Core.Path.{sym, ap, _∙_}
 use borrow.Author.Needs.{needs}
-use Rattle.rules.specs.Answers.{outcome, done}
+use Rattle.terms.specs.Answers.{outcome, done}
 use Rattle.rules.specs.IsSound.{isSound}
-use Rattle.rules.proofs.Good.{isGood→Good}
-use Rattle.rules.proofs.Opened.{opened-isSound}
+use Rattle.laws.proofs.Good.{isGood→Good}
+use Rattle.laws.proofs.Opened.{opened-isSound}
 use Rattle.print.proofs.Puts.{put-none}
 use Rattle.desk.proofs.Known.{open-good, open-bad}
 use Rattle.desk.proofs.Serving.{serves-called}

@@ -2,7 +2,7 @@
 use borrow.Author.Needs.{needs}
 use Rattle.rules.specs.Layout.{bookings}
 use Rattle.rules.specs.Listing.{listRow}
-use Rattle.rules.proofs.Accepted.{acceptedBelow-is}
+use Rattle.laws.proofs.Accepted.{acceptedBelow-is}
 use Rattle.listing.proofs.row_of.Statement.{statement}
 use Rattle.listing.proofs.row_of.Tie as tie
 

@@ -7,7 +7,7 @@ use borrow.Author.Needs.{needs}
 use Rattle.loops.proofs.Turns.{upTo-zero, upTo-more}
 use Rattle.rules.specs.Layout.{size}
 use Rattle.rules.specs.Poll.{raised}
-use Rattle.rules.proofs.Raised.{confidence-raised-rest}
+use Rattle.laws.proofs.Raised.{confidence-raised-rest}
 use Rattle.raising.proofs.raise.Statement.{statement}
 use Rattle.raising.proofs.raise.Tie as tie
 

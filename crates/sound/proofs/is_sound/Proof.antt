@@ -8,7 +8,7 @@ use lib.Dec.{leb, ltb, eqb}
 use borrow.Author.Needs.{needs}
 use borrow.Author.Tests.{leb-true, ltb-true}
 use Rattle.rules.specs.Layout.{mostBookings, header, bookings, settingIn, polls, spareField}
-use Rattle.rules.specs.Setting.{isGood}
+use Rattle.terms.specs.Setting.{isGood}
 use Rattle.rules.specs.IsSound.{headerGood, isSound}
 use Rattle.sound.proofs.is_sound.Statement.{statement}
 use Rattle.sound.proofs.is_sound.Tie as tie

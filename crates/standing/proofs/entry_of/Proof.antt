@@ -1,7 +1,7 @@
 -- On a sound workspace the slot of a booking has an entry.
 use native.Mathlib.Omega.{arith}
 use borrow.Author.Needs.{needs}
-use Rattle.rules.proofs.Slots.{slotOf-lt}
+use Rattle.laws.proofs.Slots.{slotOf-lt}
 use Rattle.standing.proofs.entry_of.Statement.{statement}
 use Rattle.standing.proofs.entry_of.Tie as tie
 

@@ -8,7 +8,7 @@ use native.Mathlib.Omega.{arith}
 use borrow.Author.Needs.{needs}
 use Rattle.loops.specs.Total.{count}
 use Rattle.loops.proofs.Total.{total-zero, total-more, count-le, bit-le}
-use Rattle.rules.specs.Votes.{voteOf, isYes}
+use Rattle.terms.specs.Votes.{voteOf, isYes}
 use Rattle.votes.proofs.count_yes.Statement.{statement}
 use Rattle.votes.proofs.count_yes.Tie as tie
 

@@ -9,7 +9,7 @@ use borrow.Author.Needs.{needs}
 use borrow.Author.Tests.{le-ltb}
 use Rattle.loops.specs.Search.{first}
 use Rattle.loops.proofs.Search.{Searched, search-start, search-miss, search-over, →any}
-use Rattle.rules.specs.Votes.{voteOf, isRefused}
+use Rattle.terms.specs.Votes.{voteOf, isRefused}
 use Rattle.votes.proofs.has_refused.Statement.{statement}
 use Rattle.votes.proofs.has_refused.Tie as tie
 

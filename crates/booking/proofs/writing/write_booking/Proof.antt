@@ -5,7 +5,7 @@ use lib.ListN.{length}
 use native.Mathlib.Omega.{arith}
 use borrow.Author.Needs.{needs}
 use Rattle.rules.specs.Layout.{recordWords, heldField}
-use Rattle.rules.proofs.Words.{entry-setsRecord-kept}
+use Rattle.laws.proofs.Words.{entry-setsRecord-kept}
 use Rattle.booking.proofs.Numbers.{bookedWith-steps}
 use Rattle.booking.proofs.Held.{held-most}
 use Rattle.booking.proofs.writing.write_booking.Statement.{statement}

@@ -4,7 +4,7 @@ use mathlib.Core.Path.{sym, _∙_}
 use native.Mathlib.Omega.{arith}
 use borrow.Author.Needs.{needs}
 use Rattle.rules.specs.Layout.{bookings}
-use Rattle.rules.proofs.Lookup.{NameSearched, lookUp-start, lookUp-hit, lookUp-miss, lookUp-over}
+use Rattle.laws.proofs.Lookup.{NameSearched, lookUp-start, lookUp-hit, lookUp-miss, lookUp-over}
 use Rattle.readings.proofs.booking.find.Statement.{statement}
 use Rattle.readings.proofs.booking.find.Tie as tie
 

@@ -1,6 +1,6 @@
 -- The state read tells the state word, and its test against 2 computes.
 use borrow.Author.Needs.{needs}
-use Rattle.rules.specs.declared.vote.State.the-variants.{Waiting, NoChit, Chit, Unknown}
+use Rattle.terms.specs.declared.vote.State.the-variants.{Waiting, NoChit, Chit, Unknown}
 use Rattle.rows.proofs.States.{state-reads, unknown-chit}
 use Rattle.rows.proofs.record.chit.Statement.{statement}
 use Rattle.rows.proofs.record.chit.Tie as tie

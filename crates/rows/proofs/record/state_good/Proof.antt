@@ -2,7 +2,7 @@
 use borrow.Author.Tests.{lt-leb}
 use borrow.Author.Needs.{needs}
 use Rattle.rules.specs.IsSound.{stateGood}
-use Rattle.rules.specs.declared.vote.State.the-variants.{Waiting, NoChit, Chit, Unknown}
+use Rattle.terms.specs.declared.vote.State.the-variants.{Waiting, NoChit, Chit, Unknown}
 use Rattle.rows.proofs.States.{state-reads}
 use Rattle.rows.proofs.record.state_good.Statement.{statement}
 use Rattle.rows.proofs.record.state_good.Tie as tie

@@ -10,7 +10,7 @@ use borrow.Author.Tests.{lt-ltb, le-ltb}
 use Rattle.loops.proofs.Turns.{upTo-zero, upTo-more}
 use Rattle.loops.proofs.Search.{Searched, search-start, search-hit, search-miss, search-over}
 use Rattle.rules.specs.Book.{parentFound, isAbsent, hasUnknown}
-use Rattle.rules.proofs.Lookup.{found-below}
+use Rattle.laws.proofs.Lookup.{found-below}
 use Rattle.writes.specs.Parents.{firstUnknown, withNumbers}
 use Rattle.writes.proofs.book.look_parents.Statement.{statement}
 use Rattle.writes.proofs.book.look_parents.Tie as tie

@@ -6,10 +6,10 @@ use Prim.Native.Nat.{ℕ, _<_}
 use native.Mathlib.Omega.{arith}
 use lib.Dec.{eqb}
 use borrow.Author.Needs.{needs}
-use Rattle.rules.specs.declared.answer.Found.the-variants.{At}
+use Rattle.terms.specs.declared.answer.Found.the-variants.{At}
 use Rattle.rules.specs.Layout.{bookings, settingIn, stateOf}
 use Rattle.rules.specs.Book.{lookUp}
-use Rattle.rules.proofs.Lookup.{found-below}
+use Rattle.laws.proofs.Lookup.{found-below}
 use Rattle.writes.proofs.Polled.{poll-absent, poll-over, poll-miscounted, poll-bad, poll-taken}
 use Rattle.writes.proofs.poll.poll.Statement.{statement}
 use Rattle.writes.proofs.poll.poll.Tie as tie

@@ -1,0 +1,122 @@
+-- Refused calls leave every word and have value 0; open, book and poll have value 0 taken too.
+-- `leaves` hands the words before back in the one arm that a refusal takes, so each call cites one law. Assumes nothing.
+use mathlib.Core.Path.{_≡_, refl}
+use mathlib.Core.Bool.{Bool, true, false, cond}
+use mathlib.Core.List.{List}
+use mathlib.Core.Logic.{_≢_}
+use Prim.Native.Nat.{ℕ, _≤_}
+use native.Mathlib.Omega.{arith}
+use lib.IntN.{ℤ, pos}
+use Rattle.terms.specs.declared.setting.Setting.{Setting}
+use Rattle.terms.specs.declared.answer.Refusal.{Refusal}
+use Rattle.terms.specs.declared.answer.Refusal.the-variants.{
+  WrongLength,
+  NotSound,
+  BadSetting,
+  NameTaken,
+  BadSlot,
+  BadParents,
+  UnknownParent,
+  ParentTwice,
+  Full,
+  UnknownName,
+  NotWaiting,
+  WrongVotes,
+  BadVote,
+}
+use Rattle.terms.specs.declared.answer.Found.{Found}
+use Rattle.terms.specs.declared.answer.Found.the-variants.{At, Absent}
+use Rattle.terms.specs.declared.answer.Answer.{Answer}
+use Rattle.terms.specs.declared.answer.Answer.the-variants.{Taken, Refused}
+use Rattle.terms.specs.Answers.{refusalNumber, number, value, Outcome, leaves}
+use Rattle.rules.specs.Calls.{openAnswer, openCall, bookAnswer, bookCall, pollAnswer, pollCall, askedOf, readingCall}
+use Rattle.rules.specs.IsSound.{isSound}
+
+-- ---- the number tells a refusal from a taken call
+
+-- a refusal's number is 1 to 13
+pub refusalNumber-within : (r : Refusal) → (1 ≤ refusalNumber r) × (refusalNumber r ≤ 13)
+refusalNumber-within WrongLength = omega arith
+refusalNumber-within NotSound = omega arith
+refusalNumber-within BadSetting = omega arith
+refusalNumber-within NameTaken = omega arith
+refusalNumber-within BadSlot = omega arith
+refusalNumber-within BadParents = omega arith
+refusalNumber-within UnknownParent = omega arith
+refusalNumber-within ParentTwice = omega arith
+refusalNumber-within Full = omega arith
+refusalNumber-within UnknownName = omega arith
+refusalNumber-within NotWaiting = omega arith
+refusalNumber-within WrongVotes = omega arith
+refusalNumber-within BadVote = omega arith
+
+pub number-refused : (r : Refusal) → number (Refused r) ≢ 0
+number-refused r e = omega (arith, refusalNumber-within r .0)
+
+-- ---- refused
+
+pub value-refused : (a : Answer) → number a ≢ 0 → value a ≡ pos 0
+value-refused (Taken v) h = absurd (h refl)
+value-refused (Refused r) h = refl
+
+-- what a refused writing call gives: every word stays, and the value is 0
+pub record Kept (w : List ℕ) (o : Outcome) : Type 0 where
+  pub words : o .words ≡ w
+  pub value : value (o .answer) ≡ pos 0
+
+pub leaves-refused : (a : Answer) (before after : List ℕ) → number (leaves a before after .answer) ≢ 0 → Kept before (leaves a before after)
+leaves-refused (Taken v) before after h = absurd (h refl)
+leaves-refused (Refused r) before after h = record { words = refl; value = refl }
+
+pub open-refused : (w : List ℕ) (s : Setting) → number (openCall w s .answer) ≢ 0 → Kept w (openCall w s)
+unfolding openCall
+open-refused w s = leaves-refused (openAnswer w s) w _
+
+pub book-refused : (w : List ℕ) (name slot : ℕ) (parents : List ℕ) → number (bookCall w name slot parents .answer) ≢ 0 → Kept w (bookCall w name slot parents)
+unfolding bookCall
+book-refused w name slot parents = leaves-refused (bookAnswer isSound w name slot parents) w _
+
+pub poll-refused : (w : List ℕ) (name : ℕ) (votes : List ℕ) → number (pollCall w name votes .answer) ≢ 0 → Kept w (pollCall w name votes)
+unfolding pollCall
+poll-refused w name votes = leaves-refused (pollAnswer isSound w name votes) w _
+
+pub reading-refused : (reading : ℕ → ℤ) (w : List ℕ) (name : ℕ) → number (readingCall reading w name) ≢ 0 → value (readingCall reading w name) ≡ pos 0
+reading-refused reading w name = value-refused (readingCall reading w name)
+
+-- ---- open, book and poll have value 0, taken or refused
+
+value-cond : (t : Bool) (a b : Answer) → value (cond t a b) ≡ cond t (value a) (value b)
+value-cond true a b = refl
+value-cond false a b = refl
+
+cond-same : (t : Bool) (x : ℤ) → cond t x x ≡ x
+cond-same true x = refl
+cond-same false x = refl
+
+abbrev valueAsked : Found → (ℕ → ℤ) → ℤ
+valueAsked (At i) rest = rest i
+valueAsked Absent rest = pos 0
+
+value-asked : (f : Found) (rest : ℕ → Answer) → value (askedOf f rest) ≡ valueAsked f (λ i. value (rest i))
+value-asked (At i) rest = refl
+value-asked Absent rest = refl
+
+asked-same : (f : Found) → valueAsked f (λ i. pos 0) ≡ pos 0
+asked-same (At i) = refl
+asked-same Absent = refl
+
+leaves-value : (a : Answer) (before after : List ℕ) → value a ≡ pos 0 → value (leaves a before after .answer) ≡ pos 0
+leaves-value (Taken v) before after e = e
+leaves-value (Refused r) before after e = e
+
+pub open-value : (w : List ℕ) (s : Setting) → value (openCall w s .answer) ≡ pos 0
+unfolding openCall
+open-value w s = leaves-value (openAnswer w s) w _ (simp (value-cond, cond-same))
+
+pub book-value : (w : List ℕ) (name slot : ℕ) (parents : List ℕ) → value (bookCall w name slot parents .answer) ≡ pos 0
+unfolding bookCall
+book-value w name slot parents = leaves-value (bookAnswer isSound w name slot parents) w _ (simp (value-cond, cond-same))
+
+pub poll-value : (w : List ℕ) (name : ℕ) (votes : List ℕ) → value (pollCall w name votes .answer) ≡ pos 0
+unfolding pollCall
+poll-value w name votes = leaves-value (pollAnswer isSound w name votes) w _ (simp (value-cond, value-asked, cond-same, asked-same))

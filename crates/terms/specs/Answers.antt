@@ -1,0 +1,63 @@
+-- Document 01, "Numbers a caller gets back": the number and the value of every answer, and what a call leaves.
+use Prim.Native.Nat.{ℕ}
+use mathlib.Core.List.{List}
+use lib.IntN.{ℤ, pos}
+use Rattle.terms.specs.declared.answer.Refusal.{Refusal}
+use Rattle.terms.specs.declared.answer.Refusal.the-variants.{
+  WrongLength,
+  NotSound,
+  BadSetting,
+  NameTaken,
+  BadSlot,
+  BadParents,
+  UnknownParent,
+  ParentTwice,
+  Full,
+  UnknownName,
+  NotWaiting,
+  WrongVotes,
+  BadVote,
+}
+use Rattle.terms.specs.declared.answer.Answer.{Answer}
+use Rattle.terms.specs.declared.answer.Answer.the-variants.{Taken, Refused}
+
+abbrev pub refusalNumber : Refusal → ℕ
+refusalNumber WrongLength = 1
+refusalNumber NotSound = 2
+refusalNumber BadSetting = 3
+refusalNumber NameTaken = 4
+refusalNumber BadSlot = 5
+refusalNumber BadParents = 6
+refusalNumber UnknownParent = 7
+refusalNumber ParentTwice = 8
+refusalNumber Full = 9
+refusalNumber UnknownName = 10
+refusalNumber NotWaiting = 11
+refusalNumber WrongVotes = 12
+refusalNumber BadVote = 13
+
+-- a taken call returns 0 and its value, a refusal its number and value 0
+abbrev pub number : Answer → ℕ
+number (Taken v) = 0
+number (Refused r) = refusalNumber r
+
+abbrev pub value : Answer → ℤ
+value (Taken v) = v
+value (Refused r) = pos 0
+
+-- open, book and poll have value 0
+abbrev pub done : Answer
+done = Taken (pos 0)
+
+-- what a call gives: its answer, and the words that it leaves
+pub record Outcome : Type 0 where
+  pub answer : Answer
+  pub words : List ℕ
+
+abbrev pub outcome : Answer → List ℕ → Outcome
+outcome a w = record { answer = a; words = w }
+
+-- a taken call leaves what it makes, and a refused one every word
+abbrev pub leaves : Answer → (before after : List ℕ) → Outcome
+leaves (Taken v) before after = outcome (Taken v) after
+leaves (Refused r) before after = outcome (Refused r) before

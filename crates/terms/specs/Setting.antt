@@ -1,0 +1,24 @@
+-- Document 01, "Numbers that bound it": when a setting is good, and the paper's own.
+use Prim.Native.Nat.{_*_, _≤_, _<_}
+use mathlib.Core.Bool.{Bool, _&&_}
+use lib.Dec.{ltb, leb}
+use Rattle.terms.specs.declared.setting.Setting.{Setting}
+
+-- 1 ≤ k ≤ 64, a ≤ k, 2 × a > k, 1 ≤ β1 ≤ β2 ≤ 510
+pub record Good (s : Setting) : Type 0 where
+  pub votesLeast : 1 ≤ s .k
+  pub votesMost : s .k ≤ 64
+  pub neededMost : s .a ≤ s .k
+  pub majority : s .k < 2 * s .a
+  pub betaLeast : 1 ≤ s .beta1
+  pub betasRise : s .beta1 ≤ s .beta2
+  pub betaMost : s .beta2 ≤ 510
+
+-- the same as a test
+abbrev pub isGood : Setting → Bool
+isGood s =
+    leb 1 (s .k) && leb (s .k) 64 && leb (s .a) (s .k) && ltb (s .k) (2 * s .a) && leb 1 (s .beta1) && leb (s .beta1) (s .beta2) && leb (s .beta2) 510
+
+-- k = 10, a = 8, β1 = 11, β2 = 150
+abbrev pub paperSetting : Setting
+paperSetting = record { k = 10; a = 8; beta1 = 11; beta2 = 150 }
