@@ -37,7 +37,7 @@ fn book(w: &mut [u16], known: bool, name: u64, slot: u16, parents: &[u64]) -> An
     ensures { λ r. ⌜ outcome r (now (w .exit)) ≡ bookCall (now (w .entry)) name slot (now (parents .entry)) ⌝ }
 {
     if known {
-        writes::book::book(w, name, slot, parents)
+        books::book(w, name, slot, parents)
     } else {
         Answer::Refused(Refusal::NotSound)
     }
@@ -66,7 +66,7 @@ fn poll(w: &mut [u16], known: bool, name: u64, votes: &[u8]) -> Answer
     ensures { λ r. ⌜ outcome r (now (w .exit)) ≡ pollCall (now (w .entry)) name (now (votes .entry)) ⌝ }
 {
     if known {
-        writes::poll::poll(w, name, votes)
+        polls::poll(w, name, votes)
     } else {
         Answer::Refused(Refusal::NotSound)
     }

@@ -50,7 +50,7 @@ pub fn book(w: &mut [u16], name: u64, slot: u16, parents: &[u64]) -> Answer
 {
     match test(w) {
         Tested::Stop(refusal) => Answer::Refused(refusal),
-        Tested::Fine => writes::book::book(w, name, slot, parents),
+        Tested::Fine => books::book(w, name, slot, parents),
     }
 }
 
@@ -60,7 +60,7 @@ pub fn poll(w: &mut [u16], name: u64, votes: &[u8]) -> Answer
 {
     match test(w) {
         Tested::Stop(refusal) => Answer::Refused(refusal),
-        Tested::Fine => writes::poll::poll(w, name, votes),
+        Tested::Fine => polls::poll(w, name, votes),
     }
 }
 

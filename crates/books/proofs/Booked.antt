@@ -1,0 +1,75 @@
+-- A booking on a ledger by its cases, in the order of its refusals: each case is what the law's call gives.
+use mathlib.Core.Path.{_≡_}
+use mathlib.Core.Bool.{Bool, true, false, _||_, true≢false}
+use mathlib.Core.List.{List}
+use Prim.Native.Nat.{ℕ, _<_, _≤_}
+use native.Mathlib.Omega.{arith}
+use lib.ListN.{length}
+use lib.Dec.{eqb, leb, ltb}
+use borrow.Author.Tests.{eqb-false, leb-false, ltb-false}
+use Rattle.terms.specs.declared.answer.Answer.the-variants.{Refused}
+use Rattle.terms.specs.declared.answer.Refusal.the-variants.{NameTaken, BadSlot, BadParents, UnknownParent, ParentTwice, Full}
+use Rattle.rules.specs.Layout.{slots, mostParents, mostBookings, bookings}
+use Rattle.terms.specs.Answers.{outcome, done}
+use Rattle.rules.specs.Sound.{Ledger}
+use Rattle.rules.specs.Book.{lookUp, isFound, hasUnknown, hasTwice, booked}
+use Rattle.rules.specs.Calls.{bookCall}
+use Rattle.laws.proofs.Tested.{tested-known}
+use Rattle.books.specs.Parents.{parentsCall}
+
+module _ (w : List ℕ) (name slot : ℕ) (parents : List ℕ) where
+  -- ---- 7, 8, 9
+
+  pub parents-unknown : hasUnknown w parents ≡ true → outcome (Refused UnknownParent) w ≡ parentsCall w name slot parents
+  unfolding parentsCall
+  parents-unknown u = rw u
+
+  module _ (known : hasUnknown w parents ≡ false) where
+    pub parents-twice : hasTwice parents ≡ true → outcome (Refused ParentTwice) w ≡ parentsCall w name slot parents
+    unfolding parentsCall
+    parents-twice t = rw (known, t)
+
+    module _ (once : hasTwice parents ≡ false) where
+      pub parents-full : eqb (bookings w) mostBookings ≡ true → outcome (Refused Full) w ≡ parentsCall w name slot parents
+      unfolding parentsCall
+      parents-full f = rw (known, once, f)
+
+      pub parents-taken : eqb (bookings w) mostBookings ≡ false → outcome done (booked w name slot parents) ≡ parentsCall w name slot parents
+      unfolding parentsCall
+      parents-taken f = rw (known, once, f)
+
+  -- ---- 4, 5, 6
+
+  module _ (ledger : Ledger w) where
+    pub book-name : isFound (lookUp w name) ≡ true → outcome (Refused NameTaken) w ≡ bookCall w name slot parents
+    unfolding bookCall
+    book-name f = rw (tested-known, f)
+
+    module _ (absent : isFound (lookUp w name) ≡ false) where
+      pub book-slot : (eqb slot 0 || leb slots slot) ≡ true → outcome (Refused BadSlot) w ≡ bookCall w name slot parents
+      unfolding bookCall
+      book-slot s = rw (tested-known, absent, s)
+
+      module _ (fits : (eqb slot 0 || leb slots slot) ≡ false) where
+        pub book-count : (eqb (length parents) 0 || ltb mostParents (length parents)) ≡ true → outcome (Refused BadParents) w ≡ bookCall w name slot parents
+        unfolding bookCall
+        book-count p = rw (tested-known, absent, fits, p)
+
+        pub book-rest : (eqb (length parents) 0 || ltb mostParents (length parents)) ≡ false → parentsCall w name slot parents ≡ bookCall w name slot parents
+        unfolding bookCall parentsCall
+        book-rest p = rw (tested-known, absent, fits, p)
+
+-- ---- what the tests that fail leave
+
+neither-second : (a b : Bool) → (a || b) ≡ false → b ≡ false
+neither-second true b e = absurd (true≢false e)
+neither-second false b e = e
+
+pub slot-lt : (slot : ℕ) → (eqb slot 0 || leb slots slot) ≡ false → slot < slots
+slot-lt slot e = leb-false slots slot (neither-second (eqb slot 0) (leb slots slot) e)
+
+pub count-most : (n : ℕ) → (eqb n 0 || ltb mostParents n) ≡ false → n ≤ mostParents
+count-most n e = ltb-false mostParents n (neither-second (eqb n 0) (ltb mostParents n) e)
+
+pub not-full : (n : ℕ) → n ≤ mostBookings → eqb n mostBookings ≡ false → n < mostBookings
+not-full n h e = omega (arith, eqb-false n mostBookings e)

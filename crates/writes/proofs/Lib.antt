@@ -1,5 +1,0 @@
--- Laws that several proofs cite, or that speak of the definitions alone. They assume nothing.
-pub mod Parents
-pub mod Booked
-pub mod States
-pub mod Polled
