@@ -1,8 +1,8 @@
 -- The call is the reading of its kind.
 use borrow.Author.Needs.{needs}
 use Rattle.rules.specs.Calls.{acceptedCall}
-use Rattle.ledger.proofs.accepted.Statement.{statement}
-use Rattle.ledger.proofs.accepted.Tie as tie
+use Rattle.reads.proofs.accepted.Statement.{statement}
+use Rattle.reads.proofs.accepted.Tie as tie
 
 read-requires : tie.Need-read-requires
 read-requires c κs = search needs

@@ -1,8 +1,8 @@
 -- The call is the reading of its kind.
 use borrow.Author.Needs.{needs}
 use Rattle.rules.specs.Calls.{leadCall}
-use Rattle.ledger.proofs.lead.Statement.{statement}
-use Rattle.ledger.proofs.lead.Tie as tie
+use Rattle.reads.proofs.lead.Statement.{statement}
+use Rattle.reads.proofs.lead.Tie as tie
 
 read-requires : tie.Need-read-requires
 read-requires c κs = search needs

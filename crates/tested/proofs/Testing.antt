@@ -17,9 +17,9 @@ use Rattle.rules.specs.IsSound.{isSound}
 use Rattle.rules.specs.Sound.{Ledger}
 use Rattle.rules.specs.Calls.{tested}
 use Rattle.laws.proofs.Sound.{isSound→Sound}
-use Rattle.ledger.specs.declared.Tested.{Tested}
-use Rattle.ledger.specs.declared.Tested.the-variants.{Fine, Stop}
-use Rattle.ledger.specs.Test.{testOf}
+use Rattle.tested.specs.declared.Tested.{Tested}
+use Rattle.tested.specs.declared.Tested.the-variants.{Fine, Stop}
+use Rattle.tested.specs.Test.{testOf}
 
 -- the test by its two bools: the length, and soundness
 abbrev judged : Bool → Bool → Tested

@@ -1,8 +1,8 @@
 -- The call is the reading of its kind.
 use borrow.Author.Needs.{needs}
 use Rattle.rules.specs.Calls.{queryCall}
-use Rattle.ledger.proofs.query.Statement.{statement}
-use Rattle.ledger.proofs.query.Tie as tie
+use Rattle.reads.proofs.query.Statement.{statement}
+use Rattle.reads.proofs.query.Tie as tie
 
 read-requires : tie.Need-read-requires
 read-requires c κs = search needs

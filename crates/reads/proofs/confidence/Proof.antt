@@ -1,8 +1,8 @@
 -- The call is the reading of its kind.
 use borrow.Author.Needs.{needs}
 use Rattle.rules.specs.Calls.{confidenceCall}
-use Rattle.ledger.proofs.confidence.Statement.{statement}
-use Rattle.ledger.proofs.confidence.Tie as tie
+use Rattle.reads.proofs.confidence.Statement.{statement}
+use Rattle.reads.proofs.confidence.Tie as tie
 
 read-requires : tie.Need-read-requires
 read-requires c κs = search needs

@@ -2,9 +2,9 @@
 use mathlib.Core.Path.{sym, ap, _∙_}
 use borrow.Author.Needs.{needs}
 use Rattle.rules.specs.Calls.{askedOf}
-use Rattle.ledger.proofs.Testing.{fine-ledger, stop-tested}
-use Rattle.ledger.proofs.read.Statement.{statement}
-use Rattle.ledger.proofs.read.Tie as tie
+use Rattle.tested.proofs.Testing.{fine-ledger, stop-tested}
+use Rattle.reads.proofs.read.Statement.{statement}
+use Rattle.reads.proofs.read.Tie as tie
 
 test-requires : tie.Need-test-requires
 test-requires c κs = search needs

@@ -1,8 +1,8 @@
 -- The call is the reading of its kind.
 use borrow.Author.Needs.{needs}
 use Rattle.rules.specs.Calls.{sizeCall}
-use Rattle.ledger.proofs.size.Statement.{statement}
-use Rattle.ledger.proofs.size.Tie as tie
+use Rattle.reads.proofs.size.Statement.{statement}
+use Rattle.reads.proofs.size.Tie as tie
 
 read-requires : tie.Need-read-requires
 read-requires c κs = search needs

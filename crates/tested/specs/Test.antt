@@ -7,8 +7,8 @@ use lib.Dec.{eqb}
 use Rattle.terms.specs.declared.answer.Refusal.the-variants.{WrongLength, NotSound}
 use Rattle.rules.specs.Layout.{size}
 use Rattle.rules.specs.IsSound.{isSound}
-use Rattle.ledger.specs.declared.Tested.{Tested}
-use Rattle.ledger.specs.declared.Tested.the-variants.{Fine, Stop}
+use Rattle.tested.specs.declared.Tested.{Tested}
+use Rattle.tested.specs.declared.Tested.the-variants.{Fine, Stop}
 
 unfoldable pub testOf : List ℕ → Tested
 testOf w = cond (not (eqb (length w) size)) (Stop WrongLength) (cond (not (isSound w)) (Stop NotSound) Fine)

@@ -1,9 +1,9 @@
 -- The two tests in their order decide.
 use borrow.Author.Needs.{needs}
 use borrow.Author.Tests.{eq-eqb, ne-eqb}
-use Rattle.ledger.specs.Test.{testOf}
-use Rattle.ledger.proofs.test.Statement.{statement}
-use Rattle.ledger.proofs.test.Tie as tie
+use Rattle.tested.specs.Test.{testOf}
+use Rattle.tested.proofs.test.Statement.{statement}
+use Rattle.tested.proofs.test.Tie as tie
 
 wrong-length : tie.Need-returns
 unfolding testOf
