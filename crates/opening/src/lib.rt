@@ -1,23 +1,24 @@
 // The words of a newly opened ledger: with the genesis only, in the setting given.
-// They are written in their order, in loops that the back end turns into wide stores: no branch and no division.
 use rules::layout;
 use terms::setting::Setting;
 ghost use mathlib.Core.Path.{_≡_};
-ghost use mathlib.Core.List.{[], _∷_, _++_};
-ghost use Prim.Native.Nat.{_<_};
 ghost use lib.ListN.{length};
-ghost use lib.Seq.{sets};
-ghost use Rattle.rules.specs.Layout.{size, slots, slotAt};
-ghost use Rattle.rules.specs.Open.{openHeader, genesisRecord, opened};
+ghost use Rattle.rules.specs.Layout.{size};
+ghost use Rattle.rules.specs.Open.{opened};
 
 // The header and the genesis.
 const FIRST_WORDS: usize = layout::HEADER_WORDS + layout::RECORD_WORDS;
 
-// n = 1, the setting, p = 0; then name 0, slot 0, no parents, polled without a chit.
-fn first_words(s: Setting) -> [u16; FIRST_WORDS]
-    ensures { λ r. ⌜ r ≡ openHeader s ++ genesisRecord ⌝ }
+// How many bookings slot 0 holds.
+const FIRST_HELD: usize = layout::SLOTS_START + layout::HELD;
+
+// In the order of the words, so that each loop becomes a run of wide stores.
+pub fn write_open(w: &mut [u16], s: Setting)
+    requires { ⌜ length (now w) ≡ size ⌝ }
+    ensures { λ _. ⌜ now (w .exit) ≡ opened s ⌝ }
 {
-    [
+    // n = 1, the setting, p = 0; then name 0, slot 0, no parents, polled without a chit
+    let first: [u16; FIRST_WORDS] = [
         1,
         s.k,
         s.a,
@@ -38,36 +39,21 @@ fn first_words(s: Setting) -> [u16; FIRST_WORDS]
         1,
         0,
         0,
-    ]
-}
-
-// The entry of slot t, whose preferred and last number are the same, with counter 0.
-fn put_entry(w: &mut [u16], t: usize, number: u16, held: u16)
-    requires { ⌜ (length (now w) ≡ size) × (t < slots) ⌝ }
-    ensures { λ _. ⌜ now (w .exit) ≡ sets (now (w .entry)) (slotAt t 0) (number ∷ number ∷ 0 ∷ held ∷ []) ⌝ }
-{
-    let at = layout::SLOTS_START + layout::SLOT_WORDS * t;
-    w[at + layout::PREFERRED] = number;
-    w[at + layout::LAST] = number;
-    w[at + layout::COUNTER] = 0;
-    w[at + layout::HELD] = held;
-}
-
-pub fn write_open(w: &mut [u16], s: Setting)
-    requires { ⌜ length (now w) ≡ size ⌝ }
-    ensures { λ _. ⌜ now (w .exit) ≡ opened s ⌝ }
-{
-    let first = first_words(s);
+    ];
     for j in 0..FIRST_WORDS {
         w[j] = first[j];
     }
-    // records after the genesis are all zero
-    for j in FIRST_WORDS..layout::SLOTS_START {
+    // the other records, and slot 0, whose preferred and last booking is the genesis
+    for j in FIRST_WORDS..FIRST_HELD {
         w[j] = 0;
     }
-    // slot 0 holds the genesis, the others nothing
-    put_entry(w, 0, 0, 1);
+    w[FIRST_HELD] = 1;
+    // the other slots are empty
     for t in 1..layout::SLOTS {
-        put_entry(w, t, layout::NONE, 0);
+        let at = layout::SLOTS_START + layout::SLOT_WORDS * t;
+        w[at + layout::PREFERRED] = layout::NONE;
+        w[at + layout::LAST] = layout::NONE;
+        w[at + layout::COUNTER] = 0;
+        w[at + layout::HELD] = 0;
     }
 }
