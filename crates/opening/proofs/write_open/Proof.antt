@@ -5,7 +5,7 @@ use mathlib.Core.List.{_++_}
 use native.Mathlib.Omega.{arith}
 use borrow.Author.Needs.{needs}
 use borrow.Author.Tests.{ne-eqb}
-use lib.ListN.{length, getD, set, length-set}
+use lib.ListN.{length, getD, length-set}
 use Rattle.terms.specs.declared.setting.Setting.{Setting}
 use Rattle.rules.specs.Layout.{size, slots, slotAt, heldField}
 use Rattle.rules.specs.Open.{openHeader, genesisRecord}
@@ -162,8 +162,8 @@ returns c =
     let e3 : L3 .t ≡ slots = omega arith in
     let first : Begun s firstWords (L .w) = rw e at (L .inv .2 s refl) in
     let zeros : Begun s firstHeld (L2 .w) = rw e2 at (L2 .inv .3 s first) in
-    let held : Begun s (slotAt 1 0) (set (L2 .w) firstHeld _) = begun-more _ _ refl (omega arith) (sym (openWord-entry s 0 heldField (omega arith))) zeros in
-    begun-all (omega arith) (rw e3 at (L3 .inv .3 s held))
+    let entries = L3 .inv .3 s (begun-more _ _ refl (omega arith) (sym (openWord-entry s 0 heldField (omega arith))) zeros) in
+    begun-all (omega arith) (rw e3 at entries)
 
 pub write-open-spec : {M : Type 1} → statement M
 write-open-spec =
