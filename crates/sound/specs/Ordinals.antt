@@ -7,6 +7,7 @@ use lib.Dec.{eqb}
 use lib.ListN.{length, getD, set, replicate}
 use Rattle.loops.specs.Turns.{upTo}
 use Rattle.rules.specs.Layout.{size, mostBookings, polls, ordinalOf}
+use Rattle.names.specs.Names.{namesBelow}
 
 -- ordinal o is marked
 abbrev pub isMarked : List ℕ → ℕ → Bool
@@ -20,9 +21,10 @@ marked o m = set m o 1
 unfoldable pub ordinalsBelow : List ℕ → ℕ → List ℕ
 ordinalsBelow w i = upTo (λ j. marked (ordinalOf w j)) i (replicate mostBookings 0)
 
--- what a pass over a whole workspace knows on reaching record i: every ordinal that is allowed has a mark, and the marks are those of the lower records
-pub record Reached (w : List ℕ) (i : ℕ) (marks : List ℕ) : Type 0 where
+-- what a pass over a whole workspace knows on reaching record i: every ordinal that is allowed has a mark, and the marks and the filter are those of the lower records
+pub record Reached (w : List ℕ) (i : ℕ) (marks filter : List ℕ) : Type 0 where
   pub whole : length w ≡ size
   pub within : i < mostBookings
   pub polled : polls w < mostBookings
   pub lower : marks ≡ ordinalsBelow w i
+  pub named : filter ≡ namesBelow w i
