@@ -26,7 +26,7 @@ pub fn chits(w: &[u16], n: usize) -> usize
 }
 
 // A record below n other than the genesis, where the marks are the ordinals of the lower ones and the filter has their names.
-fn booking_good(w: &[u16], i: usize, marks: &[u8], filter: &[u64]) -> bool
+fn booking_good(w: &[u16], i: usize, marks: &[u64], filter: &[u64]) -> bool
     requires { ⌜ Reached (now w) i (now marks) (now filter) ⌝ }
     ensures { λ r. ⌜ r ≡ bookingGood (now (w .entry)) i ⌝ }
 {
@@ -37,11 +37,11 @@ fn booking_good(w: &[u16], i: usize, marks: &[u8], filter: &[u64]) -> bool
         & (s < layout::SLOTS)
         & record::parents_good(w, i)
         & record::state_good(w, i)
-        & ((o == 0) | !ordinals::is_marked(marks, o))
+        & ((o == 0) | !bits::is_set(marks, o))
 }
 
 // A record below n, where limit is the number of records in state 2.
-fn record_good(w: &[u16], i: usize, limit: usize, marks: &[u8], filter: &[u64]) -> bool
+fn record_good(w: &[u16], i: usize, limit: usize, marks: &[u64], filter: &[u64]) -> bool
     requires { ⌜ Reached (now w) i (now marks) (now filter) × (limit ≡ chits (now w)) ⌝ }
     ensures { λ r. ⌜ r ≡ recordGood (now (w .entry)) i ⌝ }
 {
@@ -53,7 +53,7 @@ fn record_good(w: &[u16], i: usize, limit: usize, marks: &[u8], filter: &[u64]) 
 }
 
 // The lowest of the n records that breaks a rule, or n. The ordinals of those before it are marked then, and their names noted.
-fn bad_record(w: &[u16], n: usize, limit: usize, marks: &mut [u8], filter: &mut [u64]) -> usize
+fn bad_record(w: &[u16], n: usize, limit: usize, marks: &mut [u64], filter: &mut [u64]) -> usize
     requires { ⌜ Counted (now w) n × Reached (now w) 0 (now marks) (now filter) × (limit ≡ chits (now w)) ⌝ }
     ensures { λ r. ⌜ (r ≡ first (λ i. not (recordGood (now (w .entry)) i)) n) × (now (marks .exit) ≡ ordinalsBelow (now (w .entry)) r) ⌝ }
     ensures { λ r. ⌜ now (filter .exit) ≡ namesBelow (now (w .entry)) r ⌝ }
@@ -63,7 +63,7 @@ fn bad_record(w: &[u16], n: usize, limit: usize, marks: &mut [u8], filter: &mut 
             return i;
         }
         let o = record::word(w, i, layout::ORDINAL);
-        ordinals::mark(marks, o);
+        bits::set_bit(marks, o);
         names::note(w, i, filter);
     }
     n
@@ -87,7 +87,7 @@ pub fn records_good(w: &[u16], n: usize, limit: usize) -> bool
     ensures { λ r. ⌜ r ≡ recordsGood (now (w .entry)) ⌝ }
 {
     let p = words::wide(words::head(w, layout::POLLS));
-    let mut marks = [0u8; layout::MOST_BOOKINGS];
+    let mut marks = [0u64; ordinals::MARK_WORDS];
     let mut filter = [0u64; names::FILTER_WORDS];
     if bad_record(w, n, limit, &mut marks, &mut filter) == n {
         return ordinals::all_marked(&marks, p) & (stray_record(w, n) == layout::MOST_BOOKINGS);

@@ -3,6 +3,7 @@ use Prim.Native.Nat.{_≤_, _-_}
 use mathlib.Core.Path.{_≡_, sym, ap, _∙_}
 use mathlib.Core.Bool.{not}
 use native.Mathlib.Omega.{arith}
+use borrow.Author.Needs.{needs}
 use borrow.Author.Tests.{not-true, not-false}
 use Rattle.loops.proofs.Search.{Searched, search-start, search-hit, search-miss, search-over}
 use Rattle.rules.specs.IsSound.{recordGood}
@@ -53,10 +54,8 @@ bad c =
 word-requires : tie.Need-word-requires Inv-loop μ-loop
 word-requires c κs = omega arith
 
-mark-requires : tie.Need-mark-requires Inv-loop μ-loop
-mark-requires c κs =
-    let L = c .before .before .before .before .before .before .before in
-    rw (L .loop .inv .1) (ordinalsBelow-length (L .before .before .before .before .args .w .now) (L .loop .i))
+set-bit-requires : tie.Need-set-bit-requires Inv-loop μ-loop
+set-bit-requires c κs = search needs
 
 note-requires : tie.Need-note-requires Inv-loop μ-loop
 note-requires c κs = omega arith
@@ -74,7 +73,7 @@ loop-again c =
     let G = M .before .before .before .before in
     let L = G .before .before .before .before .loop in
     let again = search-miss _ _ _ (L .inv .3) (omega arith) (ap not (sym (G .record-good .ensures) ∙ not-false _ (M .before .before .before .if1 .left))) in
-    (omega arith, rw (ordinalsBelow-more, ← L .inv .1, ← M .before .before .word .ensures) (M .mark .ensures), rw (namesBelow-more, ← L .inv .2) (N .note .ensures), again)
+    (omega arith, rw (ordinalsBelow-more, ← L .inv .1, ← M .before .before .word .ensures) (M .set-bit .ensures), rw (namesBelow-more, ← L .inv .2) (N .note .ensures), again)
 
 marks-length-2 : tie.Need-same-length-3 Inv-loop μ-loop
 marks-length-2 c =
@@ -108,7 +107,7 @@ bad-record-spec =
     filter-length
     bad
     word-requires
-    mark-requires
+    set-bit-requires
     note-requires
     add-i
     loop-less
