@@ -1,54 +1,46 @@
 -- The marks say which ordinals the records so far hold.
-use mathlib.Core.Path.{_≡_, refl, sym, _∙_}
-use mathlib.Core.Bool.{Bool, true, false, cond, not, _&&_, _||_, or-true, or-false, and-eq-true-iff}
+use mathlib.Core.Path.{_≡_, refl, _∙_}
+use mathlib.Core.Bool.{Bool, true, false, cond, not, _&&_, _||_, and-eq-true-iff}
 use mathlib.Core.List.{List}
 use Prim.Native.Nat.{ℕ, zero, suc, _+_, _<_}
 use native.Mathlib.Numerals.{add-one}
 use native.Mathlib.Omega.{arith}
-use native.Mathlib.Decide.{ℕ-discrete}
 use lib.Dec.{eqb, leb, ltb}
-use lib.ListN.{length, replicate, length-set, length-replicate, getD-replicate}
-use lib.Seq.{getD-set-same, getD-set-other}
-use borrow.Author.Tests.{eq-eqb, ne-eqb, leb-true}
+use lib.ListN.{length, replicate, length-replicate}
+use borrow.Author.Tests.{leb-true}
+use Rattle.bits.specs.Bits.{bitAt, withBit}
+use Rattle.bits.proofs.Bits.{withBit-length, bitAt-withBit, bitAt-zeros}
 use Rattle.loops.specs.Search.{any, all}
 use Rattle.loops.proofs.Turns.{upTo-zero, upTo-more, upTo-kept}
 use Rattle.rules.specs.Layout.{mostBookings, slots, bookings, polls, slotOf, stateOf, ordinalOf}
 use Rattle.rules.specs.IsSound.{nameNew, parentsGood, stateGood, bookingGood, ordinalsHeld}
 use Rattle.rows.proofs.Few.{any-none}
-use Rattle.sound.specs.Ordinals.{isMarked, marked, ordinalsBelow}
+use Rattle.sound.specs.Ordinals.{markWords, ordinalsBelow}
 use Rattle.sound.proofs.Searches.{any-suc, all-same}
 
--- one mark more
-isMarked-marked : (m : List ℕ) (o q : ℕ) → o < length m → isMarked (marked q m) o ≡ isMarked m o || eqb q o
-isMarked-marked m o q h = go (ℕ-discrete q o)
-  where
-    go : Dec (q ≡ o) → isMarked (marked q m) o ≡ isMarked m o || eqb q o
-    go (yes e) = rw (e, getD-set-same m o 1 0 h, eq-eqb o o refl, or-true)
-    go (no n) = rw (getD-set-other m q o 1 0 (λ e. n (sym e)), ne-eqb q o n, or-false)
-
-pub ordinalsBelow-length : (w : List ℕ) (i : ℕ) → length (ordinalsBelow w i) ≡ mostBookings
+pub ordinalsBelow-length : (w : List ℕ) (i : ℕ) → length (ordinalsBelow w i) ≡ markWords
 unfolding ordinalsBelow
 ordinalsBelow-length w i =
-    upTo-kept (λ j. marked (ordinalOf w j)) (λ m. length m ≡ mostBookings) i (λ j l m e. length-set m (ordinalOf w j) 1 ∙ e) (replicate mostBookings 0) (length-replicate {A = ℕ} mostBookings 0)
+    upTo-kept (λ j. withBit (ordinalOf w j)) (λ m. length m ≡ markWords) i (λ j l m e. withBit-length (ordinalOf w j) m ∙ e) (replicate markWords 0) (length-replicate {A = ℕ} markWords 0)
 
 -- the turns of the loop that marks
-pub ordinalsBelow-zero : (w : List ℕ) → ordinalsBelow w 0 ≡ replicate mostBookings 0
+pub ordinalsBelow-zero : (w : List ℕ) → ordinalsBelow w 0 ≡ replicate markWords 0
 unfolding ordinalsBelow
 ordinalsBelow-zero w = upTo-zero _ _
 
-pub ordinalsBelow-more : (w : List ℕ) (i : ℕ) → ordinalsBelow w (i + 1) ≡ marked (ordinalOf w i) (ordinalsBelow w i)
+pub ordinalsBelow-more : (w : List ℕ) (i : ℕ) → ordinalsBelow w (i + 1) ≡ withBit (ordinalOf w i) (ordinalsBelow w i)
 unfolding ordinalsBelow
 ordinalsBelow-more w i = upTo-more _ i _
 
 -- an ordinal is marked exactly if a record below i holds it
-pub isMarked-any : (w : List ℕ) (i o : ℕ) → o < mostBookings → isMarked (ordinalsBelow w i) o ≡ any (λ j. eqb (ordinalOf w j) o) i
-isMarked-any w zero o h = rw (ordinalsBelow-zero w, getD-replicate {A = ℕ} mostBookings o 0 0 h, any-none)
-isMarked-any w (suc i) o h =
-    rw (← add-one i, ordinalsBelow-more w i, isMarked-marked (ordinalsBelow w i) o (ordinalOf w i) (omega (arith, ordinalsBelow-length w i)), isMarked-any w i o h, add-one, any-suc)
+pub bitAt-ordinalsBelow : (w : List ℕ) (i o : ℕ) → o < mostBookings → bitAt (ordinalsBelow w i) o ≡ any (λ j. eqb (ordinalOf w j) o) i
+bitAt-ordinalsBelow w zero o h = rw (ordinalsBelow-zero w, bitAt-zeros markWords o h, any-none)
+bitAt-ordinalsBelow w (suc i) o h =
+    rw (← add-one i, ordinalsBelow-more w i, bitAt-withBit (ordinalsBelow w i) (ordinalOf w i) o (omega (arith, ordinalsBelow-length w i)), bitAt-ordinalsBelow w i o h, add-one, any-suc)
 
 -- ---- the marks judge an ordinal as a look back does
 
--- where the state is good the ordinal is no more than p, and so has a mark
+-- where the state is good the ordinal is no more than p, and so has a bit
 ordinal-lt : (w : List ℕ) (i : ℕ) → polls w < mostBookings → stateGood w i ≡ true → ordinalOf w i < mostBookings
 unfolding stateGood
 ordinal-lt w i h e =
@@ -61,10 +53,10 @@ judged false s m n h = refl
 
 pub bookingGood-marked : (w : List ℕ) (i : ℕ) → polls w < mostBookings
     → (nameNew w i && leb 1 (slotOf w i) && ltb (slotOf w i) slots && parentsGood w i && stateGood w i
-    && (eqb (ordinalOf w i) 0 || not (isMarked (ordinalsBelow w i) (ordinalOf w i)))) ≡ bookingGood w i
+    && (eqb (ordinalOf w i) 0 || not (bitAt (ordinalsBelow w i) (ordinalOf w i)))) ≡ bookingGood w i
 unfolding bookingGood
 bookingGood-marked w i h =
-    judged (nameNew w i && leb 1 (slotOf w i) && ltb (slotOf w i) slots && parentsGood w i) (stateGood w i) _ _ (λ e. rw (isMarked-any w i (ordinalOf w i) (ordinal-lt w i h e)))
+    judged (nameNew w i && leb 1 (slotOf w i) && ltb (slotOf w i) slots && parentsGood w i) (stateGood w i) _ _ (λ e. rw (bitAt-ordinalsBelow w i (ordinalOf w i) (ordinal-lt w i h e)))
 
-pub ordinalsHeld-marked : (w : List ℕ) → polls w < mostBookings → all (λ o. isMarked (ordinalsBelow w (bookings w)) (o + 1)) (polls w) ≡ ordinalsHeld w
-ordinalsHeld-marked w h = all-same _ _ (polls w) (λ o l. isMarked-any w (bookings w) (o + 1) (omega arith))
+pub ordinalsHeld-marked : (w : List ℕ) → polls w < mostBookings → all (λ o. bitAt (ordinalsBelow w (bookings w)) (o + 1)) (polls w) ≡ ordinalsHeld w
+ordinalsHeld-marked w h = all-same _ _ (polls w) (λ o l. bitAt-ordinalsBelow w (bookings w) (o + 1) (omega arith))

@@ -7,14 +7,11 @@ use native.Mathlib.Numerals.{add-one}
 use native.Mathlib.Nat.{eq-or-lt-of-le, le-of-suc-le-suc}
 use native.Mathlib.Omega.{arith}
 use lib.Dec.{eqb}
-use borrow.Author.Tests.{eq-eqb, le-ltb}
-use Rattle.loops.specs.Search.{firstFrom, first, any, all}
+use borrow.Author.Tests.{eq-eqb}
+use Rattle.loops.specs.Search.{firstFrom, any, all}
 use Rattle.loops.proofs.Search.{Searched, search-start, search-miss, search-over, any→, →any, none→, →none}
 
 module _ (p : ℕ → Bool) (n i : ℕ) where
-  pub search-none : Searched p n i → n ≤ i → any p n ≡ false
-  search-none s h = le-ltb (first p n) n (omega (arith, search-over p n i s h))
-
   pub search-all : Searched (λ j. not (p j)) n i → i ≡ n → all p n ≡ true
   search-all s e = eq-eqb _ n (search-over (λ j. not (p j)) n i s (omega arith) ∙ e)
 

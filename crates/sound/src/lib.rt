@@ -1,4 +1,4 @@
-// Is a workspace sound: the passes over its rows. Every pass is linear but for names, which are compared with all lower ones.
+// Is a workspace sound: the passes over its rows. Each looks at a row once; a name is compared with lower ones only where the filter of names can't tell.
 mod entries;
 mod held;
 mod ordinals;

@@ -5,11 +5,11 @@ use rules::layout;
 ghost use mathlib.Core.Path.{_≡_};
 ghost use mathlib.Core.Bool.{not, _||_};
 ghost use Prim.Native.Nat.{_<_};
-ghost use lib.ListN.{length};
 ghost use lib.Dec.{ltb};
 ghost use Rattle.loops.specs.Search.{first};
-ghost use Rattle.rules.specs.Layout.{size, mostBookings, bookings, polls};
-ghost use Rattle.rules.specs.IsSound.{chits, nameNew, bookingGood, recordGood, recordsGood, recordZero};
+ghost use Rattle.rules.specs.Layout.{mostBookings, bookings, polls};
+ghost use Rattle.rules.specs.IsSound.{chits, bookingGood, recordGood, recordsGood, recordZero};
+ghost use Rattle.names.specs.Names.{namesBelow};
 ghost use Rattle.rows.specs.Counted.{Counted};
 ghost use Rattle.sound.specs.Ordinals.{ordinalsBelow, Reached};
 
@@ -25,58 +25,46 @@ pub fn chits(w: &[u16], n: usize) -> usize
     found
 }
 
-// No lower record has the name of record i.
-fn name_new(w: &[u16], i: usize) -> bool
-    requires { ⌜ (length (now w) ≡ size) × (i < mostBookings) ⌝ }
-    ensures { λ r. ⌜ r ≡ nameNew (now (w .entry)) i ⌝ }
-{
-    let name = words::name(w, i);
-    for j in 0..i {
-        if words::name(w, j) == name {
-            return false;
-        }
-    }
-    true
-}
-
-// A record below n other than the genesis, where the marks are the ordinals of the lower ones.
-fn booking_good(w: &[u16], i: usize, marks: &[u8]) -> bool
-    requires { ⌜ Reached (now w) i (now marks) ⌝ }
+// A record below n other than the genesis, where the marks are the ordinals of the lower ones and the filter has their names.
+fn booking_good(w: &[u16], i: usize, marks: &[u64], filter: &[u64]) -> bool
+    requires { ⌜ Reached (now w) i (now marks) (now filter) ⌝ }
     ensures { λ r. ⌜ r ≡ bookingGood (now (w .entry)) i ⌝ }
 {
     let s = record::word(w, i, layout::SLOT);
     let o = record::word(w, i, layout::ORDINAL);
-    name_new(w, i)
+    names::is_new(w, i, filter)
         & (1 <= s)
         & (s < layout::SLOTS)
         & record::parents_good(w, i)
         & record::state_good(w, i)
-        & ((o == 0) | !ordinals::is_marked(marks, o))
+        & ((o == 0) | !bits::is_set(marks, o))
 }
 
-// A record below n, where the marks are the ordinals of the lower ones and limit is the number of records in state 2.
-fn record_good(w: &[u16], i: usize, limit: usize, marks: &[u8]) -> bool
-    requires { ⌜ Reached (now w) i (now marks) × (limit ≡ chits (now w)) ⌝ }
+// A record below n, where limit is the number of records in state 2.
+fn record_good(w: &[u16], i: usize, limit: usize, marks: &[u64], filter: &[u64]) -> bool
+    requires { ⌜ Reached (now w) i (now marks) (now filter) × (limit ≡ chits (now w)) ⌝ }
     ensures { λ r. ⌜ r ≡ recordGood (now (w .entry)) i ⌝ }
 {
     let confidence = record::word(w, i, layout::CONFIDENCE);
     if i == 0 {
         return record::genesis_good(w) & (confidence <= limit);
     }
-    booking_good(w, i, marks) & (confidence <= limit)
+    booking_good(w, i, marks, filter) & (confidence <= limit)
 }
 
-// The lowest of the n records that breaks a rule, or n. The ordinals of those before it are marked then.
-fn bad_record(w: &[u16], n: usize, limit: usize, marks: &mut [u8]) -> usize
-    requires { ⌜ Counted (now w) n × Reached (now w) 0 (now marks) × (limit ≡ chits (now w)) ⌝ }
+// The lowest of the n records that breaks a rule, or n. The ordinals of those before it are marked then, and their names noted.
+fn bad_record(w: &[u16], n: usize, limit: usize, marks: &mut [u64], filter: &mut [u64]) -> usize
+    requires { ⌜ Counted (now w) n × Reached (now w) 0 (now marks) (now filter) × (limit ≡ chits (now w)) ⌝ }
     ensures { λ r. ⌜ (r ≡ first (λ i. not (recordGood (now (w .entry)) i)) n) × (now (marks .exit) ≡ ordinalsBelow (now (w .entry)) r) ⌝ }
+    ensures { λ r. ⌜ now (filter .exit) ≡ namesBelow (now (w .entry)) r ⌝ }
 {
     for i in 0..n {
-        if !record_good(w, i, limit, marks) {
+        if !record_good(w, i, limit, marks, filter) {
             return i;
         }
         let o = record::word(w, i, layout::ORDINAL);
-        ordinals::mark(marks, o);
+        bits::set_bit(marks, o);
+        names::note(w, i, filter);
     }
     n
 }
@@ -99,8 +87,9 @@ pub fn records_good(w: &[u16], n: usize, limit: usize) -> bool
     ensures { λ r. ⌜ r ≡ recordsGood (now (w .entry)) ⌝ }
 {
     let p = words::wide(words::head(w, layout::POLLS));
-    let mut marks = [0u8; layout::MOST_BOOKINGS];
-    if bad_record(w, n, limit, &mut marks) == n {
+    let mut marks = [0u64; ordinals::MARK_WORDS];
+    let mut filter = [0u64; names::FILTER_WORDS];
+    if bad_record(w, n, limit, &mut marks, &mut filter) == n {
         return ordinals::all_marked(&marks, p) & (stray_record(w, n) == layout::MOST_BOOKINGS);
     }
     false

@@ -1,49 +1,64 @@
--- The search for a record that breaks a rule is what is left to search from i on, and the marks are the ordinals below i.
+-- The search for a record that breaks a rule is what is left to search from i on; marks and filter are those of the records below i.
 use Prim.Native.Nat.{_≤_, _-_}
 use mathlib.Core.Path.{_≡_, sym, ap, _∙_}
 use mathlib.Core.Bool.{not}
 use native.Mathlib.Omega.{arith}
+use borrow.Author.Needs.{needs}
 use borrow.Author.Tests.{not-true, not-false}
 use Rattle.loops.proofs.Search.{Searched, search-start, search-hit, search-miss, search-over}
 use Rattle.rules.specs.IsSound.{recordGood}
+use Rattle.names.specs.Names.{namesBelow}
+use Rattle.names.proofs.Names.{namesBelow-length, namesBelow-more}
 use Rattle.sound.specs.Ordinals.{ordinalsBelow}
 use Rattle.sound.proofs.Marks.{ordinalsBelow-length, ordinalsBelow-more}
 use Rattle.sound.proofs.records.bad_record.Statement.{statement}
 use Rattle.sound.proofs.records.bad_record.Tie as tie
 
 abbrev Inv-loop : tie.InvT-loop
-Inv-loop w n limit marks₀ i₀ marks i = (i ≤ n) × (marks ≡ ordinalsBelow w i) × Searched (λ j. not (recordGood w j)) n i
+Inv-loop w n limit marks₀ filter₀ i₀ marks filter i =
+    (i ≤ n) × (marks ≡ ordinalsBelow w i) × (filter ≡ namesBelow w i) × Searched (λ j. not (recordGood w j)) n i
 
 abbrev μ-loop : tie.MeasureT-loop
-μ-loop w n limit marks₀ i₀ marks i = n - i
+μ-loop w n limit marks₀ filter₀ i₀ marks filter i = n - i
 
 loop-holds : tie.Need-loop-holds Inv-loop μ-loop
-loop-holds c = (omega arith, c .before .before .pre .1 .lower, search-start _ _)
+loop-holds c =
+    let R = c .before .before .before .pre .1 in
+    (omega arith, R .lower, R .named, search-start _ _)
 
 record-good-requires : tie.Need-record-good-requires Inv-loop μ-loop
 record-good-requires c κs =
-    let S = c .before .before .before .before .before in
-    (record { whole = S .pre .0 .whole; within = omega arith; polled = S .pre .1 .polled; lower = c .before .before .loop .inv .1 }, S .pre .2)
+    let L = c .before .before .before in
+    let S = L .before .before .before .before in
+    (record { whole = S .pre .0 .whole; within = omega arith; polled = S .pre .1 .polled; lower = L .loop .inv .1; named = L .loop .inv .2 }, S .pre .2)
 
-same-length : tie.Need-same-length Inv-loop μ-loop
-same-length c =
-    let L = c .before .before .before .before in
-    let S = L .before .before .before in
+marks-length : tie.Need-same-length Inv-loop μ-loop
+marks-length c =
+    let L = c .before .before .before .before .before in
+    let S = L .before .before .before .before in
     let w = S .args .w .now in
     rw (L .loop .inv .1, S .pre .1 .lower) (ordinalsBelow-length w (L .loop .i) ∙ sym (ordinalsBelow-length w 0))
 
+filter-length : tie.Need-same-length-2 Inv-loop μ-loop
+filter-length c =
+    let L = c .before .before .before .before .before in
+    let S = L .before .before .before .before in
+    let w = S .args .w .now in
+    rw (L .loop .inv .2, S .pre .1 .named) (namesBelow-length w (L .loop .i) ∙ sym (namesBelow-length w 0))
+
 bad : tie.Need-returns Inv-loop μ-loop
 bad c =
-    let L = c .before .before .before .before .loop in
-    (sym (search-hit _ _ _ (L .inv .2) (omega arith) (ap not (sym (c .before .record-good .ensures) ∙ not-true _ (c .if1 .taken)))), L .inv .1)
+    let L = c .before .before .before .before .before .loop in
+    ((sym (search-hit _ _ _ (L .inv .3) (omega arith) (ap not (sym (c .before .record-good .ensures) ∙ not-true _ (c .if1 .taken)))), L .inv .1), L .inv .2)
 
 word-requires : tie.Need-word-requires Inv-loop μ-loop
 word-requires c κs = omega arith
 
-mark-requires : tie.Need-mark-requires Inv-loop μ-loop
-mark-requires c κs =
-    let L = c .before .before .before .before .before .before in
-    rw (L .loop .inv .1) (ordinalsBelow-length (L .before .before .before .args .w .now) (L .loop .i))
+set-bit-requires : tie.Need-set-bit-requires Inv-loop μ-loop
+set-bit-requires c κs = search needs
+
+note-requires : tie.Need-note-requires Inv-loop μ-loop
+note-requires c κs = omega arith
 
 add-i : tie.Need-add-i Inv-loop μ-loop
 add-i c = omega arith
@@ -53,22 +68,32 @@ loop-less c = omega arith
 
 loop-again : tie.Need-loop-again Inv-loop μ-loop
 loop-again c =
-    let M = c .before .before in
+    let N = c .before .before in
+    let M = N .before .before .before .before in
     let G = M .before .before .before .before in
-    let L = G .before .before .before .loop in
-    (omega arith, rw (ordinalsBelow-more, ← L .inv .1, ← M .before .before .word .ensures) (M .mark .ensures), search-miss _ _ _ (L .inv .2) (omega arith) (ap not (sym (G .record-good .ensures) ∙ not-false _ (M .before .before .before .if1 .left))))
+    let L = G .before .before .before .before .loop in
+    let again = search-miss _ _ _ (L .inv .3) (omega arith) (ap not (sym (G .record-good .ensures) ∙ not-false _ (M .before .before .before .if1 .left))) in
+    (omega arith, rw (ordinalsBelow-more, ← L .inv .1, ← M .before .before .word .ensures) (M .set-bit .ensures), rw (namesBelow-more, ← L .inv .2) (N .note .ensures), again)
 
-same-length-2 : tie.Need-same-length-2 Inv-loop μ-loop
-same-length-2 c =
-    let S = c .before .before .before .before in
+marks-length-2 : tie.Need-same-length-3 Inv-loop μ-loop
+marks-length-2 c =
+    let L = c .before in
+    let S = L .before .before .before .before in
     let w = S .args .w .now in
-    rw (c .before .loop .inv .1, S .pre .1 .lower) (ordinalsBelow-length w (c .before .loop .i) ∙ sym (ordinalsBelow-length w 0))
+    rw (L .loop .inv .1, S .pre .1 .lower) (ordinalsBelow-length w (L .loop .i) ∙ sym (ordinalsBelow-length w 0))
+
+filter-length-2 : tie.Need-same-length-4 Inv-loop μ-loop
+filter-length-2 c =
+    let L = c .before in
+    let S = L .before .before .before .before in
+    let w = S .args .w .now in
+    rw (L .loop .inv .2, S .pre .1 .named) (namesBelow-length w (L .loop .i) ∙ sym (namesBelow-length w 0))
 
 all-good : tie.Need-returns-2 Inv-loop μ-loop
 all-good c =
     let L = c .before .loop in
-    let e : L .i ≡ c .before .before .before .before .args .n = omega arith in
-    (sym (search-over _ _ _ (L .inv .2) (omega arith) ∙ e), rw (← e) (L .inv .1))
+    let e : L .i ≡ c .before .before .before .before .before .args .n = omega arith in
+    ((sym (search-over _ _ _ (L .inv .3) (omega arith) ∙ e), rw (← e) (L .inv .1)), rw (← e) (L .inv .2))
 
 pub bad-record-spec : {M : Type 1} → statement M
 bad-record-spec =
@@ -78,12 +103,15 @@ bad-record-spec =
     μ-loop
     loop-holds
     record-good-requires
-    same-length
+    marks-length
+    filter-length
     bad
     word-requires
-    mark-requires
+    set-bit-requires
+    note-requires
     add-i
     loop-less
     loop-again
-    same-length-2
+    marks-length-2
+    filter-length-2
     all-good)

@@ -1,5 +1,5 @@
--- The code has the rule's tests in the rule's order, with the marks in place of a look back at the lower ordinals.
-use Rattle.sound.proofs.Marks.{ordinalsBelow-length, bookingGood-marked}
+-- The code has the rule's tests in the rule's order, with the filter in place of a look back at the lower names and the marks at the lower ordinals.
+use Rattle.sound.proofs.Marks.{bookingGood-marked}
 use borrow.Author.Needs.{needs}
 use Rattle.sound.proofs.records.booking_good.Statement.{statement}
 use Rattle.sound.proofs.records.booking_good.Tie as tie
@@ -10,8 +10,8 @@ word-requires c κs = search needs
 word-requires-2 : tie.Need-word-requires-2
 word-requires-2 c κs = search needs
 
-name-new-requires : tie.Need-name-new-requires
-name-new-requires c κs = search needs
+is-new-requires : tie.Need-is-new-requires
+is-new-requires c κs = search needs
 
 parents-good-requires : tie.Need-parents-good-requires
 parents-good-requires c κs = search needs
@@ -19,16 +19,14 @@ parents-good-requires c κs = search needs
 state-good-requires : tie.Need-state-good-requires
 state-good-requires c κs = search needs
 
-is-marked-requires : tie.Need-is-marked-requires
-is-marked-requires c κs =
-    let S = c .before .before .before .before .before .before .before in
-    rw (S .pre .lower) (ordinalsBelow-length (S .args .w .now) (S .args .i))
+is-set-requires : tie.Need-is-set-requires
+is-set-requires c κs = search needs
 
 returns : tie.Need-returns
 returns c =
     let N = c .before .before .before in
-    let S = N .before .before .before .before .before in
-    rw (N .name-new .ensures, N .before .before .word .ensures, c .before .before .parents-good .ensures, c .before .state-good .ensures, c .is-marked .ensures, N .before .word2 .ensures, S .pre .lower) (bookingGood-marked (S .args .w .now) (S .args .i) (S .pre .polled))
+    let S = N .before .before .before .before .before .before in
+    rw (N .is-new .ensures, N .before .before .word .ensures, c .before .before .parents-good .ensures, c .before .state-good .ensures, c .is-set .ensures, N .before .word2 .ensures, S .pre .lower) (bookingGood-marked (S .args .w .now) (S .args .i) (S .pre .polled))
 
 pub booking-good-spec : {M : Type 1} → statement M
 booking-good-spec =
@@ -36,8 +34,8 @@ booking-good-spec =
     (tie.spec
     word-requires
     word-requires-2
-    name-new-requires
+    is-new-requires
     parents-good-requires
     state-good-requires
-    is-marked-requires
+    is-set-requires
     returns)

@@ -1,15 +1,15 @@
 -- The search for a lower record of the same name is what is left to search from j on.
-use Prim.Native.Nat.{_≤_, _-_}
+use Prim.Native.Nat.{ℕ, _≤_, _-_}
 use mathlib.Core.Path.{sym, ap, _∙_}
-use mathlib.Core.Bool.{not}
+use mathlib.Core.Bool.{Bool, not}
 use native.Mathlib.Omega.{arith}
 use lib.Dec.{eqb}
-use borrow.Author.Tests.{eq-eqb, ne-eqb}
-use Rattle.loops.proofs.Search.{Searched, search-start, search-miss, →any}
+use borrow.Author.Tests.{eq-eqb, ne-eqb, le-ltb}
+use Rattle.loops.proofs.Search.{Searched, search-start, search-miss, search-over, →any}
+use Rattle.loops.specs.Search.{first}
 use Rattle.rules.specs.Layout.{nameOf}
-use Rattle.sound.proofs.Searches.{search-none}
-use Rattle.sound.proofs.records.name_new.Statement.{statement}
-use Rattle.sound.proofs.records.name_new.Tie as tie
+use Rattle.names.proofs.look_back.Statement.{statement}
+use Rattle.names.proofs.look_back.Tie as tie
 
 abbrev Inv-loop : tie.InvT-loop
 Inv-loop w i name j₀ j = (j ≤ i) × Searched (λ k. eqb (nameOf w k) (nameOf w i)) i j
@@ -44,10 +44,13 @@ loop-again c =
     (omega arith, search-miss _ _ _ (L .loop .inv .1) (omega arith) (ne-eqb _ _ (λ q. c .if1 .left (c .before .name2 .ensures ∙ q ∙ sym (L .before .name .ensures)))))
 
 new-name : tie.Need-returns-2 Inv-loop μ-loop
-new-name c = sym (ap not (search-none _ _ _ (c .before .loop .inv .1) (omega arith)))
+new-name c =
+    let S = c .before .before .before .before .args in
+    let p : ℕ → Bool = λ k. eqb (nameOf (S .w .now) k) (nameOf (S .w .now) (S .i)) in
+    sym (ap not (le-ltb (first p (S .i)) (S .i) (omega (arith, search-over p (S .i) (c .before .loop .j) (c .before .loop .inv .1) (omega arith)))))
 
-pub name-new-spec : {M : Type 1} → statement M
-name-new-spec =
+pub look-back-spec : {M : Type 1} → statement M
+look-back-spec =
     tie.close
     (tie.spec
     Inv-loop

@@ -1,0 +1,2 @@
+-- Bits in a row of words.
+pub mod Bits

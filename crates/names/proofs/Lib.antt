@@ -1,0 +1,2 @@
+-- Laws of the filter. They assume nothing.
+pub mod Names
