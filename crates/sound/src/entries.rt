@@ -6,7 +6,7 @@ ghost use mathlib.Core.Bool.{not};
 ghost use Rattle.loops.specs.Search.{first};
 ghost use Rattle.rules.specs.Layout.{slots};
 ghost use Rattle.rules.specs.IsSound.{chits, slotGood, slotsGood};
-ghost use Rattle.rows.specs.Counted.{Counted};
+ghost use Rattle.header.specs.Counted.{Counted};
 ghost use Rattle.sound.specs.Held.{heldBelow};
 
 // The lowest slot entry that breaks a rule, or 256, where the table has the bookings of each slot.
@@ -16,14 +16,14 @@ fn bad_entry(w: &[u16], n: usize, limit: usize, held: &[u16]) -> usize
 {
     for s in 0..layout::SLOTS {
         let count = words::wide(held[s]);
-        if !rows::slot::slot_good(w, n, limit, s, count) {
+        if !entry::slot_good(w, n, limit, s, count) {
             return s;
         }
     }
     layout::SLOTS
 }
 
-pub fn slots_good(w: &[u16], n: usize, limit: usize) -> bool
+pub(crate) fn slots_good(w: &[u16], n: usize, limit: usize) -> bool
     requires { ⌜ Counted (now w) n × (limit ≡ chits (now w)) ⌝ }
     ensures { λ r. ⌜ r ≡ slotsGood (now (w .entry)) ⌝ }
 {

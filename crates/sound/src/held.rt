@@ -17,12 +17,12 @@ fn count(held: &mut [u16], s: usize)
 }
 
 // Counts the bookings of each slot among the first n records, into a table of zeros.
-pub fn count_all(w: &[u16], n: usize, held: &mut [u16])
+pub(crate) fn count_all(w: &[u16], n: usize, held: &mut [u16])
     requires { ⌜ (length (now w) ≡ size) × (n ≤ mostBookings) × (now held ≡ heldBelow (now w) 0) ⌝ }
     ensures { λ _. ⌜ now (held .exit) ≡ heldBelow (now (w .entry)) n ⌝ }
 {
     for i in 0..n {
-        let s = rows::record::word(w, i, layout::SLOT);
+        let s = record::word(w, i, layout::SLOT);
         count(held, s);
     }
 }

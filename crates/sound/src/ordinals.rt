@@ -5,10 +5,10 @@ ghost use Rattle.bits.specs.Bits.{bitAt};
 ghost use Rattle.loops.specs.Search.{all};
 
 // How many words the marks have.
-pub const MARK_WORDS: usize = 8;
+pub(crate) const MARK_WORDS: usize = 8;
 
 // Each ordinal from 1 to p is marked.
-pub fn all_marked(marks: &[u64], p: usize) -> bool
+pub(crate) fn all_marked(marks: &[u64], p: usize) -> bool
     ensures { λ r. ⌜ r ≡ all (λ o. bitAt (now (marks .entry)) (o + 1)) p ⌝ }
 {
     for o in 0..p {

@@ -1,6 +1,5 @@
 // The records.
 use crate::ordinals;
-use rows::record;
 use rules::layout;
 ghost use mathlib.Core.Path.{_≡_};
 ghost use mathlib.Core.Bool.{not, _||_};
@@ -10,11 +9,11 @@ ghost use Rattle.loops.specs.Search.{first};
 ghost use Rattle.rules.specs.Layout.{mostBookings, bookings, polls};
 ghost use Rattle.rules.specs.IsSound.{chits, bookingGood, recordGood, recordsGood, recordZero};
 ghost use Rattle.names.specs.Names.{namesBelow};
-ghost use Rattle.rows.specs.Counted.{Counted};
+ghost use Rattle.header.specs.Counted.{Counted};
 ghost use Rattle.sound.specs.Ordinals.{ordinalsBelow, Reached};
 
 // How many of the n records are in state 2.
-pub fn chits(w: &[u16], n: usize) -> usize
+pub(crate) fn chits(w: &[u16], n: usize) -> usize
     requires { ⌜ Counted (now w) n ⌝ }
     ensures { λ r. ⌜ r ≡ chits (now (w .entry)) ⌝ }
 {
@@ -82,7 +81,7 @@ fn stray_record(w: &[u16], n: usize) -> usize
     layout::MOST_BOOKINGS
 }
 
-pub fn records_good(w: &[u16], n: usize, limit: usize) -> bool
+pub(crate) fn records_good(w: &[u16], n: usize, limit: usize) -> bool
     requires { ⌜ Counted (now w) n × (polls (now w) < mostBookings) × (limit ≡ chits (now w)) ⌝ }
     ensures { λ r. ⌜ r ≡ recordsGood (now (w .entry)) ⌝ }
 {
