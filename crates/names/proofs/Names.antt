@@ -2,7 +2,7 @@
 use mathlib.Core.Path.{_≡_, refl, sym, ap, ap₂, _∙_}
 use mathlib.Core.Bool.{Bool, true, false, not, _&&_, true≢false}
 use mathlib.Core.List.{List}
-use Prim.Native.Nat.{ℕ, _+_, _*_, _%_, _<_}
+use Prim.Native.Nat.{ℕ, _+_, _<_}
 use native.Mathlib.Omega.{arith}
 use lib.Dec.{eqb}
 use lib.ListN.{length, replicate, length-replicate}
@@ -14,10 +14,10 @@ use Rattle.loops.proofs.Search.{any→}
 use Rattle.loops.proofs.Turns.{upTo-zero, upTo-more, upTo-kept, upTo-since}
 use Rattle.rules.specs.Layout.{nameOf}
 use Rattle.rules.specs.IsSound.{nameNew}
-use Rattle.names.specs.Names.{filterWords, isNoted, noted, namesBelow}
+use Rattle.names.specs.Names.{filterWords, firstBit, secondBit, isNoted, noted, namesBelow}
 
 pub noted-length : (name : ℕ) (f : List ℕ) → length (noted name f) ≡ length f
-noted-length name f = withBit-length (name % 8191) (withBit (name % 8192) f) ∙ withBit-length (name % 8192) f
+noted-length name f = withBit-length (secondBit name) (withBit (firstBit name) f) ∙ withBit-length (firstBit name) f
 
 pub namesBelow-length : (w : List ℕ) (i : ℕ) → length (namesBelow w i) ≡ filterWords
 unfolding namesBelow
@@ -36,24 +36,24 @@ namesBelow-more w i = upTo-more _ i _
 -- a whole filter in which both bits of the name are set
 record Has (name : ℕ) (f : List ℕ) : Type 0 where
   whole : length f ≡ filterWords
-  first : bitAt f (name % 8192) ≡ true
-  second : bitAt f (name % 8191) ≡ true
+  first : bitAt f (firstBit name) ≡ true
+  second : bitAt f (secondBit name) ≡ true
 
 withBit-has : (name q : ℕ) (f : List ℕ) → Has name f → Has name (withBit q f)
 withBit-has name q f h =
     record {
       whole = withBit-length q f ∙ h .whole;
-      first = bitAt-withBit-kept f q (name % 8192) (omega (arith, h .whole)) (h .first);
-      second = bitAt-withBit-kept f q (name % 8191) (omega (arith, h .whole)) (h .second);
+      first = bitAt-withBit-kept f q (firstBit name) (omega (arith, h .whole)) (h .first);
+      second = bitAt-withBit-kept f q (secondBit name) (omega (arith, h .whole)) (h .second);
     }
 
 noted-has : (name : ℕ) (f : List ℕ) → length f ≡ filterWords → Has name (noted name f)
 noted-has name f e =
-    let g : length (withBit (name % 8192) f) ≡ filterWords = withBit-length (name % 8192) f ∙ e in
+    let g : length (withBit (firstBit name) f) ≡ filterWords = withBit-length (firstBit name) f ∙ e in
     record {
       whole = noted-length name f ∙ e;
-      first = bitAt-withBit-kept (withBit (name % 8192) f) (name % 8191) (name % 8192) (omega arith) (bitAt-withBit-same f (name % 8192) (omega arith));
-      second = bitAt-withBit-same (withBit (name % 8192) f) (name % 8191) (omega arith);
+      first = bitAt-withBit-kept (withBit (firstBit name) f) (secondBit name) (firstBit name) (omega arith) (bitAt-withBit-same f (firstBit name) (omega arith));
+      second = bitAt-withBit-same (withBit (firstBit name) f) (secondBit name) (omega arith);
     }
 
 -- the name of a lower record is noted

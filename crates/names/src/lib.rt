@@ -1,25 +1,25 @@
 // Names: is one new among the lower records. A filter of bits tells most new names at once; only where it can't are the lower records looked through.
 ghost use mathlib.Core.Path.{_≡_};
-ghost use Prim.Native.Nat.{_<_, _%_};
+ghost use Prim.Native.Nat.{_<_};
 ghost use lib.ListN.{length};
 ghost use Rattle.rules.specs.Layout.{size, mostBookings, nameOf};
 ghost use Rattle.rules.specs.IsSound.{nameNew};
-ghost use Rattle.names.specs.Names.{isNoted, noted, namesBelow};
+ghost use Rattle.names.specs.Names.{firstBit, secondBit, isNoted, noted, namesBelow};
 
 // How many words a filter has.
-pub const FILTER_WORDS: usize = 128;
+pub const FILTER_WORDS: usize = 124;
 
 // The two bits of a name.
 fn first_bit(name: u64) -> usize
-    ensures { λ r. ⌜ r ≡ name % 8192 ⌝ }
+    ensures { λ r. ⌜ r ≡ firstBit name ⌝ }
 {
-    (name % 8192) as usize
+    (name % 7879) as usize
 }
 
 fn second_bit(name: u64) -> usize
-    ensures { λ r. ⌜ r ≡ name % 8191 ⌝ }
+    ensures { λ r. ⌜ r ≡ secondBit name ⌝ }
 {
-    (name % 8191) as usize
+    (name % 7741) as usize
 }
 
 // Both bits of the name are set, as they are if it was noted.

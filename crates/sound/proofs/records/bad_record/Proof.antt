@@ -1,8 +1,10 @@
 -- The search for a record that breaks a rule is what is left to search from i on; marks and filter are those of the records below i.
-use Prim.Native.Nat.{_≤_, _-_}
+use Prim.Native.Nat.{ℕ, _≤_, _-_}
 use mathlib.Core.Path.{_≡_, sym, ap, _∙_}
 use mathlib.Core.Bool.{not}
+use mathlib.Core.List.{List}
 use native.Mathlib.Omega.{arith}
+use lib.ListN.{length}
 use borrow.Author.Needs.{needs}
 use borrow.Author.Tests.{not-true, not-false}
 use Rattle.loops.proofs.Search.{Searched, search-start, search-hit, search-miss, search-over}
@@ -13,6 +15,10 @@ use Rattle.sound.specs.Ordinals.{ordinalsBelow}
 use Rattle.sound.proofs.Marks.{ordinalsBelow-length, ordinalsBelow-more}
 use Rattle.sound.proofs.records.bad_record.Statement.{statement}
 use Rattle.sound.proofs.records.bad_record.Tie as tie
+
+-- a table is as long at one turn as at another
+same-long : {k : ℕ} (f : ℕ → List ℕ) → ((i : ℕ) → length (f i) ≡ k) → {a b : List ℕ} {i j : ℕ} → a ≡ f i → b ≡ f j → length a ≡ length b
+same-long f h {i = i} {j = j} p q = ap length p ∙ h i ∙ sym (h j) ∙ ap length (sym q)
 
 abbrev Inv-loop : tie.InvT-loop
 Inv-loop w n limit marks₀ filter₀ i₀ marks filter i =
@@ -36,15 +42,13 @@ marks-length : tie.Need-same-length Inv-loop μ-loop
 marks-length c =
     let L = c .before .before .before .before .before in
     let S = L .before .before .before .before in
-    let w = S .args .w .now in
-    rw (L .loop .inv .1, S .pre .1 .lower) (ordinalsBelow-length w (L .loop .i) ∙ sym (ordinalsBelow-length w 0))
+    same-long (ordinalsBelow (S .args .w .now)) (ordinalsBelow-length (S .args .w .now)) (L .loop .inv .1) (S .pre .1 .lower)
 
 filter-length : tie.Need-same-length-2 Inv-loop μ-loop
 filter-length c =
     let L = c .before .before .before .before .before in
     let S = L .before .before .before .before in
-    let w = S .args .w .now in
-    rw (L .loop .inv .2, S .pre .1 .named) (namesBelow-length w (L .loop .i) ∙ sym (namesBelow-length w 0))
+    same-long (namesBelow (S .args .w .now)) (namesBelow-length (S .args .w .now)) (L .loop .inv .2) (S .pre .1 .named)
 
 bad : tie.Need-returns Inv-loop μ-loop
 bad c =
@@ -79,15 +83,13 @@ marks-length-2 : tie.Need-same-length-3 Inv-loop μ-loop
 marks-length-2 c =
     let L = c .before in
     let S = L .before .before .before .before in
-    let w = S .args .w .now in
-    rw (L .loop .inv .1, S .pre .1 .lower) (ordinalsBelow-length w (L .loop .i) ∙ sym (ordinalsBelow-length w 0))
+    same-long (ordinalsBelow (S .args .w .now)) (ordinalsBelow-length (S .args .w .now)) (L .loop .inv .1) (S .pre .1 .lower)
 
 filter-length-2 : tie.Need-same-length-4 Inv-loop μ-loop
 filter-length-2 c =
     let L = c .before in
     let S = L .before .before .before .before in
-    let w = S .args .w .now in
-    rw (L .loop .inv .2, S .pre .1 .named) (namesBelow-length w (L .loop .i) ∙ sym (namesBelow-length w 0))
+    same-long (namesBelow (S .args .w .now)) (namesBelow-length (S .args .w .now)) (L .loop .inv .2) (S .pre .1 .named)
 
 all-good : tie.Need-returns-2 Inv-loop μ-loop
 all-good c =
