@@ -105,6 +105,7 @@ pub fn accepted_of(w: &[u16], i: usize) -> bool
     requires { ⌜ Ledger (now w) × (i < bookings (now w)) ⌝ }
     ensures { λ r. ⌜ r ≡ acceptedOf (now (w .entry)) i ⌝ }
 {
-    let m = accepted_below(w, i + 1);
+    let mut m = [0u8; layout::MOST_BOOKINGS];
+    accept_below(w, &mut m, i + 1);
     ancestry::is_member(&m, i)
 }

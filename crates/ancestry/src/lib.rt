@@ -4,7 +4,7 @@ ghost use mathlib.Core.Path.{_≡_};
 ghost use Prim.Native.Nat.{_<_, _≤_};
 ghost use lib.ListN.{length};
 ghost use Rattle.rules.specs.Layout.{size, mostBookings, mostParents, parentOf};
-ghost use Rattle.rules.specs.Ancestry.{isMember, mark, markParents, spread, sweep, ancestry};
+ghost use Rattle.rules.specs.Ancestry.{isMember, mark, markParents, spread, sweep, unmarked, ancestry};
 
 // Whether j is marked; a number past the end is not.
 pub fn is_member(m: &[u8], j: usize) -> bool
@@ -65,13 +65,11 @@ fn sweep_down(w: &[u16], m: &mut [u8], n: usize)
     }
 }
 
-// The marks of booking i's ancestry.
-pub fn marks_of(w: &[u16], i: usize) -> [u8; layout::MOST_BOOKINGS]
-    requires { ⌜ (length (now w) ≡ size) × (i < mostBookings) ⌝ }
-    ensures { λ r. ⌜ r ≡ ancestry (now (w .entry)) i ⌝ }
+// Marks booking i's ancestry, where nothing was marked.
+pub fn mark_ancestry(w: &[u16], m: &mut [u8], i: usize)
+    requires { ⌜ (length (now w) ≡ size) × (i < mostBookings) × (now m ≡ unmarked) ⌝ }
+    ensures { λ _. ⌜ now (m .exit) ≡ ancestry (now (w .entry)) i ⌝ }
 {
-    let mut m = [0u8; layout::MOST_BOOKINGS];
-    mark_one(&mut m, i);
-    sweep_down(w, &mut m, i + 1);
-    m
+    mark_one(m, i);
+    sweep_down(w, m, i + 1);
 }

@@ -32,7 +32,8 @@ fn write_poll(w: &mut [u16], i: usize, votes: &[u8])
     ensures { λ _. ⌜ now (w .exit) ≡ polled (now (w .entry)) i (now (votes .entry)) ⌝ }
 {
     if is_success(w, votes) {
-        let marks = ancestry::marks_of(w, i);
+        let mut marks = [0u8; layout::MOST_BOOKINGS];
+        ancestry::mark_ancestry(w, &mut marks, i);
         writing::write_success(w, &marks, i);
     } else {
         writing::write_failure(w, i);

@@ -1,5 +1,6 @@
 // How many members a booking's ancestry has.
 use crate::booking;
+use rules::layout;
 ghost use mathlib.Core.Path.{_≡_};
 ghost use Prim.Native.Nat.{_<_};
 ghost use lib.ListN.{length};
@@ -31,6 +32,7 @@ pub fn size_of(w: &[u16], i: usize) -> usize
     requires { ⌜ (length (now w) ≡ size) × (i < mostBookings) ⌝ }
     ensures { λ r. ⌜ r ≡ sizeOf (now (w .entry)) i ⌝ }
 {
-    let m = ancestry::marks_of(w, i);
+    let mut m = [0u8; layout::MOST_BOOKINGS];
+    ancestry::mark_ancestry(w, &mut m, i);
     marked_below(&m, booking::how_many(w))
 }

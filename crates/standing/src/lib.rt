@@ -69,6 +69,7 @@ pub fn query_of(w: &[u16], i: usize) -> bool
     requires { ⌜ Ledger (now w) × (i < bookings (now w)) ⌝ }
     ensures { λ r. ⌜ r ≡ queryOf (now (w .entry)) i ⌝ }
 {
-    let m = ancestry::marks_of(w, i);
+    let mut m = [0u8; layout::MOST_BOOKINGS];
+    ancestry::mark_ancestry(w, &mut m, i);
     first_in_the_way(w, &m) == booking::how_many(w)
 }

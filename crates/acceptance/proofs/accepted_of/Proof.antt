@@ -5,11 +5,14 @@ use Rattle.rules.specs.Readings.{acceptedOf}
 use Rattle.acceptance.proofs.accepted_of.Statement.{statement}
 use Rattle.acceptance.proofs.accepted_of.Tie as tie
 
-add-accepted-below : tie.Need-add-accepted-below
-add-accepted-below c = search needs
+slice-aggregate-accept-below : tie.Need-slice-aggregate-accept-below
+slice-aggregate-accept-below c = search needs
 
-accepted-below-requires : tie.Need-accepted-below-requires
-accepted-below-requires c κs = search needs
+add-accept-below : tie.Need-add-accept-below
+add-accept-below c = search needs
+
+accept-below-requires : tie.Need-accept-below-requires
+accept-below-requires c κs = search needs
 
 slice-aggregate-is-member : tie.Need-slice-aggregate-is-member
 slice-aggregate-is-member c = search needs
@@ -19,14 +22,17 @@ is-member-requires c κs = search needs
 
 returns : tie.Need-returns
 unfolding acceptedOf
-returns c = rw (← add-one (c .before .before .before .before .args .i), ← c .before .before .accepted-below .ensures) (c .is-member .ensures)
+returns c =
+    let start = c .before .before .before .before .before .before in
+    rw (← add-one (start .args .i), ← c .before .before .before .accept-below .ensures) (c .is-member .ensures)
 
 pub accepted-of-spec : {M : Type 1} → statement M
 accepted-of-spec =
     tie.close
     (tie.spec
-    add-accepted-below
-    accepted-below-requires
+    slice-aggregate-accept-below
+    add-accept-below
+    accept-below-requires
     slice-aggregate-is-member
     is-member-requires
     returns)

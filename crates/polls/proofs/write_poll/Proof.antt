@@ -7,8 +7,11 @@ use Rattle.polls.proofs.write_poll.Tie as tie
 is-success-requires : tie.Need-is-success-requires
 is-success-requires c κs = search needs
 
-marks-of-requires : tie.Need-marks-of-requires
-marks-of-requires c κs = search needs
+slice-aggregate-mark-ancestry : tie.Need-slice-aggregate-mark-ancestry
+slice-aggregate-mark-ancestry c = search needs
+
+mark-ancestry-requires : tie.Need-mark-ancestry-requires
+mark-ancestry-requires c κs = search needs
 
 slice-aggregate-write-success : tie.Need-slice-aggregate-write-success
 slice-aggregate-write-success c = search needs
@@ -25,9 +28,9 @@ same-length c = search needs
 succeeds : tie.Need-returns
 unfolding polled
 succeeds c =
-    let M = c .before .before .before .before .before in
-    let I = M .before .before in
-    simp (← I .before .is-success .ensures, I .if1 .taken, ← M .marks-of .ensures) (c .before .before .write-success .ensures)
+    let M = c .before .before .before .before .before .before in
+    let I = M .before .before .before in
+    simp (← I .before .is-success .ensures, I .if1 .taken, ← M .mark-ancestry .ensures) (c .before .before .write-success .ensures)
 
 same-length-2 : tie.Need-same-length-2
 same-length-2 c = search needs
@@ -43,7 +46,8 @@ write-poll-spec =
     tie.close
     (tie.spec
     is-success-requires
-    marks-of-requires
+    slice-aggregate-mark-ancestry
+    mark-ancestry-requires
     slice-aggregate-write-success
     write-success-requires
     write-failure-requires

@@ -4,8 +4,11 @@ use Rattle.rules.specs.Readings.{queryOf}
 use Rattle.standing.proofs.query_of.Statement.{statement}
 use Rattle.standing.proofs.query_of.Tie as tie
 
-marks-of-requires : tie.Need-marks-of-requires
-marks-of-requires c κs = search needs
+slice-aggregate-mark-ancestry : tie.Need-slice-aggregate-mark-ancestry
+slice-aggregate-mark-ancestry c = search needs
+
+mark-ancestry-requires : tie.Need-mark-ancestry-requires
+mark-ancestry-requires c κs = search needs
 
 slice-aggregate-first-in-the-way : tie.Need-slice-aggregate-first-in-the-way
 slice-aggregate-first-in-the-way c = search needs
@@ -19,13 +22,14 @@ how-many-requires c κs = search needs
 returns : tie.Need-returns
 unfolding queryOf
 returns c =
-    rw (← c .before .before .before .marks-of .ensures, ← c .before .first-in-the-way .ensures, ← c .how-many .ensures)
+    rw (← c .before .before .before .before .mark-ancestry .ensures, ← c .before .first-in-the-way .ensures, ← c .how-many .ensures)
 
 pub query-of-spec : {M : Type 1} → statement M
 query-of-spec =
     tie.close
     (tie.spec
-    marks-of-requires
+    slice-aggregate-mark-ancestry
+    mark-ancestry-requires
     slice-aggregate-first-in-the-way
     first-in-the-way-requires
     how-many-requires

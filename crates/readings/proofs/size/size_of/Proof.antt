@@ -4,8 +4,11 @@ use Rattle.rules.specs.Readings.{sizeOf}
 use Rattle.readings.proofs.size.size_of.Statement.{statement}
 use Rattle.readings.proofs.size.size_of.Tie as tie
 
-marks-of-requires : tie.Need-marks-of-requires
-marks-of-requires c κs = search needs
+slice-aggregate-mark-ancestry : tie.Need-slice-aggregate-mark-ancestry
+slice-aggregate-mark-ancestry c = search needs
+
+mark-ancestry-requires : tie.Need-mark-ancestry-requires
+mark-ancestry-requires c κs = search needs
 
 slice-aggregate-marked-below : tie.Need-slice-aggregate-marked-below
 slice-aggregate-marked-below c = search needs
@@ -18,13 +21,14 @@ marked-below-requires c κs = search needs
 
 returns : tie.Need-returns
 unfolding sizeOf
-returns c = rw (← c .before .how-many .ensures, ← c .before .before .before .marks-of .ensures) (c .marked-below .ensures)
+returns c = rw (← c .before .how-many .ensures, ← c .before .before .before .before .mark-ancestry .ensures) (c .marked-below .ensures)
 
 pub size-of-spec : {M : Type 1} → statement M
 size-of-spec =
     tie.close
     (tie.spec
-    marks-of-requires
+    slice-aggregate-mark-ancestry
+    mark-ancestry-requires
     slice-aggregate-marked-below
     how-many-requires
     marked-below-requires
