@@ -14,8 +14,8 @@ use Rattle.scan.specs.declared.many.Many.the-variants.{Count, Refused}
 use Rattle.terms.specs.declared.answer.Reading.{Reading}
 use Rattle.parse.specs.declared.command.Command.{Command}
 use Rattle.parse.specs.declared.command.Command.the-variants.{Open, Book, Poll, Read, List as ListAll, Bad}
-use Rattle.scan.specs.declared.keyword.Keyword.{Keyword}
-use Rattle.scan.specs.declared.keyword.Keyword.the-variants.{
+use Rattle.keyword.specs.declared.Keyword.{Keyword}
+use Rattle.keyword.specs.declared.Keyword.the-variants.{
   Open as openWord,
   Book as bookWord,
   Poll as pollWord,
@@ -25,7 +25,7 @@ use Rattle.scan.specs.declared.keyword.Keyword.the-variants.{
 }
 use Rattle.scan.specs.Words.{words}
 use Rattle.scan.specs.Numbers.{shortMost, nameOf, shortOf, voteOf}
-use Rattle.scan.specs.Keywords.{keywordOf}
+use Rattle.keyword.specs.Keywords.{keywordOf}
 use Rattle.scan.specs.Lists.{openMost, parentsMost, votesMost, leading, manyOf}
 
 -- ---- what is told from the words in turn

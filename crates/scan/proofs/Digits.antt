@@ -6,7 +6,7 @@ use mathlib.Core.Logic.{_⊎_, ⊎-elim, inl, inr}
 use Prim.Native.Nat.{ℕ, zero, suc, _+_, _*_, _-_, _%_, _<_, _≤_}
 use native.Mathlib.Nat.{add-zero}
 use native.Mathlib.Omega.{arith}
-use lib.ListN.{length, getD, drop, List·getD-eq-default}
+use lib.ListN.{length, getD, take, drop, List·getD-eq-default}
 use lib.Dec.{eqb, leb}
 use borrow.Author.Tests.{eq-eqb, le-leb, lt-leb, leb-true, leb-false}
 use Rattle.loops.specs.Search.{all}
@@ -16,6 +16,7 @@ use Rattle.text.specs.Bytes.{digit, minus}
 use Rattle.scan.specs.declared.number.Number.{Number}
 use Rattle.scan.specs.declared.number.Number.the-variants.{Value, Bad}
 use Rattle.scan.specs.Numbers.{digitsMost, isDigit, valueOf, isNumber, numberOf, moreOf, voteMost, minusMost, negatedOf, voteOf}
+use Rattle.scan.proofs.Parts.{rest-lent}
 
 -- ---- a digit more
 
@@ -118,6 +119,11 @@ number-long most word h = simp (lt-leb (length word) digitsMost h, and-false)
 pub vote-none : (word : List ℕ) → length word < 1 → voteOf word ≡ Bad
 unfolding voteOf
 vote-none word h = simp (List·getD-eq-default word 0 {n = 0} (omega arith)) (number-none voteMost word h)
+
+-- a vote with a minus sign, as the code reads it: the number after the sign, negated
+pub vote-minus : (word : List ℕ) (n : Number) → getD word 0 0 ≡ minus → n ≡ numberOf minusMost (take (length word - 1) (drop 1 word)) → negatedOf n ≡ voteOf word
+unfolding voteOf
+vote-minus word n e q = rw (eq-eqb (getD word 0 0) minus e) (ap negatedOf (q ∙ ap (numberOf minusMost) (rest-lent 1 word)))
 
 -- ---- bounds
 

@@ -1,7 +1,7 @@
 // A word as a number or as a vote.
 ghost use mathlib.Core.Path.{_≡_};
 ghost use Prim.Native.Nat.{_≤_};
-ghost use Rattle.scan.specs.Numbers.{moreOf, negatedOf, numberOf, voteOf};
+ghost use Rattle.scan.specs.Numbers.{moreOf, numberOf, voteOf};
 
 // What a word is worth, or that it is no such number.
 pub enum Number {
@@ -56,17 +56,7 @@ pub(crate) fn read_number(word: &[u8], most: u64) -> Number
     Number::Value(value)
 }
 
-// A vote below zero as its byte, two's complement; -0 is 0.
-fn negated(n: Number) -> Number
-    ensures { λ r. ⌜ r ≡ negatedOf n ⌝ }
-{
-    let Number::Value(v) = n else {
-        return Number::Bad;
-    };
-    Number::Value((256 - v % 256) % 256)
-}
-
-// From -128 to 127, as its byte.
+// From -128 to 127, as its byte: two's complement below zero, and -0 is 0.
 pub(crate) fn read_vote(word: &[u8]) -> Number
     ensures { λ r. ⌜ r ≡ voteOf (now (word .entry)) ⌝ }
 {
@@ -74,7 +64,10 @@ pub(crate) fn read_vote(word: &[u8]) -> Number
         return Number::Bad;
     }
     if word[0] == b'-' {
-        return negated(read_number(&word[1..], MINUS_MOST));
+        let Number::Value(v) = read_number(&word[1..], MINUS_MOST) else {
+            return Number::Bad;
+        };
+        return Number::Value((256 - v % 256) % 256);
     }
     read_number(word, VOTE_MOST)
 }

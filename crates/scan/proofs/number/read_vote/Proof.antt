@@ -1,9 +1,9 @@
 -- A word that begins with a minus sign is the number after it, negated; any other is a number by itself.
-use mathlib.Core.Path.{sym, ap, _∙_}
-use borrow.Author.Tests.{eq-eqb, ne-eqb}
-use Rattle.scan.specs.Numbers.{minusMost, negatedOf, numberOf, voteOf}
-use Rattle.scan.proofs.Digits.{vote-none}
-use Rattle.scan.proofs.Parts.{rest-lent}
+use mathlib.Core.Path.{sym, _∙_}
+use borrow.Author.Tests.{ne-eqb}
+use Rattle.scan.specs.declared.number.Number.the-variants.{Value, Bad}
+use Rattle.scan.specs.Numbers.{voteOf}
+use Rattle.scan.proofs.Digits.{vote-none, vote-minus}
 use borrow.Author.Needs.{needs}
 use Rattle.scan.proofs.number.read_vote.Statement.{statement}
 use Rattle.scan.proofs.number.read_vote.Tie as tie
@@ -26,21 +26,32 @@ part-read-number-end c = search needs
 read-number-requires : tie.Need-read-number-requires
 read-number-requires c κs = search needs
 
-negated-requires : tie.Need-negated-requires
-negated-requires c κs = search needs
+enum-known-v : tie.Need-enum-known-v
+enum-known-v c = search needs
 
-below-zero : tie.Need-returns-2
-unfolding voteOf
+enum-told : tie.Need-enum-told
+enum-told c = search needs
+
+no-number : tie.Need-returns-2
+no-number c =
+    let R = c .before .before in
+    let I = R .before .before in
+    vote-minus (I .before .before .before .before .args .word .now) Bad (I .if2 .taken) (sym (c .enum-told .given .1) ∙ R .read-number .ensures)
+
+sub-t13 : tie.Need-sub-t13
+sub-t13 c = search needs
+
+below-zero : tie.Need-returns-3
 below-zero c =
-    let R = c .before in
-    let w = R .before .before .before .before .before .before .args .word .now in
-    let e = R .read-number .ensures ∙ ap (numberOf minusMost) (rest-lent 1 w) in
-    rw (eq-eqb _ _ (R .before .before .if2 .taken)) (c .negated .ensures ∙ ap negatedOf e)
+    let K = c .before in
+    let R = K .before .before in
+    let I = R .before .before in
+    vote-minus (I .before .before .before .before .args .word .now) (Value _) (I .if2 .taken) (sym (K .v .given .1) ∙ R .read-number .ensures)
 
 read-number-requires-2 : tie.Need-read-number-requires-2
 read-number-requires-2 c κs = search needs
 
-not-below : tie.Need-returns-3
+not-below : tie.Need-returns-4
 unfolding voteOf
 not-below c = rw (ne-eqb _ _ (c .before .if2 .left)) (c .read-number2 .ensures)
 
@@ -54,7 +65,10 @@ read-vote-spec =
     part-read-number-start
     part-read-number-end
     read-number-requires
-    negated-requires
+    enum-known-v
+    enum-told
+    no-number
+    sub-t13
     below-zero
     read-number-requires-2
     not-below)
