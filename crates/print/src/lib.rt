@@ -39,9 +39,9 @@ fn put_refusal(out: &mut [u8], at: usize, refusal: Refusal) -> usize
     ensures { λ r. ⌜ Put (now (out .entry)) at (refusalPrints refusal) r (now (out .exit)) ⌝ }
 {
     let number = put_text(out, at, b"refused ");
-    let end = put_number(out, number, refusal.number() as u64);
-    out[end] = b'\n';
-    end + 1
+    let after = put_number(out, number, refusal.number() as u64);
+    out[after] = b'\n';
+    after + 1
 }
 
 // What a reading's answer prints: its value, or its refusal.
@@ -66,6 +66,6 @@ pub fn put_call(out: &mut [u8], at: usize, answer: Answer) -> usize
 {
     match answer {
         Answer::Taken(_) => at,
-        Answer::Refused(refusal) => put_refusal(out, at, refusal),
+        Answer::Refused(r) => put_refusal(out, at, r),
     }
 }

@@ -60,3 +60,22 @@ decimal-length n h = digitsOf-length 19 n n (omega arith)
 -- the digits of a tenth are one fewer
 pub decimal-high-length : (n : ℕ) → 10 ≤ n → length (decimal n) ≡ length (decimal (n / 10)) + 1
 decimal-high-length n h = rw (decimal-high n h, length-append)
+
+-- a smaller number has no more digits
+digitsOf-le : (f m n : ℕ) → m ≤ n → length (digitsOf f m) ≤ length (digitsOf f n)
+unfolding digitsOf
+digitsOf-le zero m n h = omega arith
+digitsOf-le (suc f) m n h = go (decLt m 10) (decLt n 10) (digitsOf-le f (m / 10) (n / 10) (omega arith))
+  where
+    go : Dec (m < 10) → Dec (n < 10) → length (digitsOf f (m / 10)) ≤ length (digitsOf f (n / 10)) → length (digitsOf (suc f) m) ≤ length (digitsOf (suc f) n)
+    go (yes l) (yes k) tenths = rw (digitsOf-low (suc f) m l, digitsOf-low (suc f) n k) (omega arith)
+    go (yes l) (no k) tenths = rw (digitsOf-low (suc f) m l, digitsOf-high f n (omega arith), length-append) (omega arith)
+    go (no l) (yes k) tenths = absurd (omega arith)
+    go (no l) (no k) tenths = rw (digitsOf-high f m (omega arith), digitsOf-high f n (omega arith)) (simp length-append (omega arith))
+
+pub decimal-length-le : (m n : ℕ) → m ≤ n → length (decimal m) ≤ length (decimal n)
+unfolding decimal
+decimal-length-le m n h = rw (digitsOf-same m n m (omega arith) h) (digitsOf-le n m n h)
+
+pub decimal-fits : (at k m n : ℕ) → m ≤ n → at + length (decimal n) ≤ k → at + length (decimal m) ≤ k
+decimal-fits at k m n h r = omega (arith, decimal-length-le m n h)

@@ -49,8 +49,8 @@ pub(crate) fn next_vote(line: &[u8], at: usize) -> Step
     }
     let start = at + 1;
     let end = end_after(line, at);
-    let Number::Value(value) = read_vote(&line[start..end]) else {
+    let Number::Value(vote) = read_vote(&line[start..end]) else {
         return Step::Stop;
     };
-    Step::Next(value, end)
+    Step::Next(vote, end)
 }

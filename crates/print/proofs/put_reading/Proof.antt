@@ -32,7 +32,8 @@ slice-write-out c =
 add-result : tie.Need-add-result
 add-result c =
     let P = c .before .before in
-    omega (arith, slice-write-out c, P .before .before .before .before .before .before .good .0 .0, P .put-signed .kept .0)
+    let A = P .before .before in
+    omega (arith, signed-length (A .before .answer .given .0 .0) (value-fits A), (rw (read A) at (P .put-signed .ensures)) .next, A .before .before .before .before .good .0 .0)
 
 same-length : tie.Need-same-length
 same-length c = search needs

@@ -10,8 +10,8 @@ use mir.Syntax.{w64}
 use mir.Val.{toZ, ofZ}
 use mir.ValLaws.{toZ-ofZ, toZ-pos}
 use borrow.Author.Needs.{needs}
-use Rattle.put.specs.Decimal.{decimal}
-use Rattle.put.proofs.Puts.{put-one, put-then, room-next}
+use Rattle.put.proofs.Puts.{put-one, put-then}
+use Rattle.put.proofs.Decimals.{decimal-fits}
 use Rattle.put.proofs.Signs.{rest-below, signed-below, natAbs-le, nonNeg-above, signed-above}
 use Rattle.put.proofs.put_signed.Statement.{statement}
 use Rattle.put.proofs.put_signed.Tie as tie
@@ -48,7 +48,9 @@ add-put-number-2 : tie.Need-add-put-number-2
 add-put-number-2 c = rw (rest-read (c .before)) (omega (arith, c .before .before .before .fits .v .sfits))
 
 put-number-requires : tie.Need-put-number-requires
-put-number-requires c κs = let S = c .before .before .before in rw (rest-read (c .before)) (room-next (put-one (S .args .out .now) (S .args .at) _) (decimal (mag (S .args .v) + 1)) (rw (signed-below (S .args .v) (taken (c .before))) at (S .pre)))
+put-number-requires c κs =
+    let S = c .before .before .before in
+    rw (rest-read (c .before)) (decimal-fits _ _ _ (mag (S .args .v) + 1) (omega arith) (simp length-set (omega (arith, ap length (signed-below (S .args .v) (taken (c .before)))))))
 
 same-length : tie.Need-same-length
 same-length c = (c .before .before .put-number .kept .0) ∙ simp length-set

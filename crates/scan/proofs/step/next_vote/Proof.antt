@@ -28,8 +28,8 @@ part-read-vote-end c = search needs
 read-vote-requires : tie.Need-read-vote-requires
 read-vote-requires c κs = search needs
 
-enum-known-value : tie.Need-enum-known-value
-enum-known-value c = search needs
+enum-known-vote : tie.Need-enum-known-vote
+enum-known-vote c = search needs
 
 enum-told : tie.Need-enum-told
 enum-told c = search needs
@@ -47,7 +47,7 @@ stepped c =
     let R = K .before .before in
     let E = R .before .before in
     let S = E .before .before .before in
-    step-made voteOf (S .args .line .now) (S .args .at) (Value _) _ (E .before .if1 .left) (E .end-after .ensures .0) (sym (K .value .given .1) ∙ R .read-vote .ensures)
+    step-made voteOf (S .args .line .now) (S .args .at) (Value _) _ (E .before .if1 .left) (E .end-after .ensures .0) (sym (K .vote .given .1) ∙ R .read-vote .ensures)
 
 pub next-vote-spec : {M : Type 1} → statement M
 next-vote-spec =
@@ -60,7 +60,7 @@ next-vote-spec =
     part-read-vote-start
     part-read-vote-end
     read-vote-requires
-    enum-known-value
+    enum-known-vote
     enum-told
     stopped
     stepped)
