@@ -22,7 +22,7 @@ use Rattle.keyword.specs.declared.Keyword.the-variants.{
   Unknown,
 }
 use Rattle.scan.specs.Words.{words}
-use Rattle.scan.specs.Numbers.{nameOf, shortOf, voteOf}
+use Rattle.number.specs.Numbers.{nameOf, shortOf, voteOf}
 use Rattle.keyword.specs.Keywords.{keywordOf}
 use Rattle.scan.specs.Lists.{openMost, parentsMost, votesMost, leading, manyOf}
 use Rattle.scan.proofs.Leading.{many-count, leading-length}

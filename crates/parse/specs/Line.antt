@@ -7,8 +7,8 @@ use lib.ListN.{getD}
 use lib.Seq.{sets}
 use lib.Dec.{ltb}
 use Rattle.terms.specs.declared.setting.Setting.{Setting}
-use Rattle.scan.specs.declared.number.Number.{Number}
-use Rattle.scan.specs.declared.number.Number.the-variants.{Value, Bad as NoNumber}
+use Rattle.number.specs.declared.Number.{Number}
+use Rattle.number.specs.declared.Number.the-variants.{Value, Bad as NoNumber}
 use Rattle.scan.specs.declared.many.Many.{Many}
 use Rattle.scan.specs.declared.many.Many.the-variants.{Count, Refused}
 use Rattle.terms.specs.declared.answer.Reading.{Reading}
@@ -24,7 +24,7 @@ use Rattle.keyword.specs.declared.Keyword.the-variants.{
   Unknown,
 }
 use Rattle.scan.specs.Words.{words}
-use Rattle.scan.specs.Numbers.{shortMost, nameOf, shortOf, voteOf}
+use Rattle.number.specs.Numbers.{shortMost, nameOf, shortOf, voteOf}
 use Rattle.keyword.specs.Keywords.{keywordOf}
 use Rattle.scan.specs.Lists.{openMost, parentsMost, votesMost, leading, manyOf}
 

@@ -1,12 +1,12 @@
 // The next word of a line, read at the place where the word before it ends.
-use crate::number::Number;
-use crate::number::read_number;
-use crate::number::read_vote;
+use number::Number;
+use number::read_number;
+use number::read_vote;
 use crate::word::word_end;
 ghost use mathlib.Core.Path.{_≡_};
 ghost use Prim.Native.Nat.{_≤_, _<_};
 ghost use lib.ListN.{length};
-ghost use Rattle.scan.specs.Numbers.{numberOf, voteOf};
+ghost use Rattle.number.specs.Numbers.{numberOf, voteOf};
 ghost use Rattle.scan.specs.Steps.{endAfter, stepOf};
 
 // The value of the next word and where it ends, or that there is no word or that it is no number.

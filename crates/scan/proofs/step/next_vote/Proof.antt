@@ -1,7 +1,7 @@
 -- Past the end there is no word; any other is the part of the line up to where it ends.
 use mathlib.Core.Path.{sym, _∙_}
-use Rattle.scan.specs.declared.number.Number.the-variants.{Value, Bad}
-use Rattle.scan.specs.Numbers.{voteOf}
+use Rattle.number.specs.declared.Number.the-variants.{Value, Bad}
+use Rattle.number.specs.Numbers.{voteOf}
 use Rattle.scan.proofs.Walk.{step-none, step-made}
 use borrow.Author.Needs.{needs}
 use Rattle.scan.proofs.step.next_vote.Statement.{statement}

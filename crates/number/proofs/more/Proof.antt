@@ -5,8 +5,8 @@ use Prim.Native.Nat.{_+_, _*_, _-_}
 use borrow.Author.Needs.{needs}
 use borrow.Author.Tests.{le-leb, lt-leb}
 use Rattle.text.specs.Bytes.{digit}
-use Rattle.scan.proofs.number.more.Statement.{statement}
-use Rattle.scan.proofs.number.more.Tie as tie
+use Rattle.number.proofs.more.Statement.{statement}
+use Rattle.number.proofs.more.Tie as tie
 
 below-digits : tie.Need-returns
 below-digits c = let b = c .before .args .byte in simp (lt-leb (digit 0) b (c .if1 .taken))

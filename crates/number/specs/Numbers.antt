@@ -7,8 +7,8 @@ use lib.Dec.{eqb, leb}
 use Rattle.loops.specs.Search.{all}
 use Rattle.loops.specs.Turns.{upTo}
 use Rattle.text.specs.Bytes.{minus, digit}
-use Rattle.scan.specs.declared.number.Number.{Number}
-use Rattle.scan.specs.declared.number.Number.the-variants.{Value, Bad}
+use Rattle.number.specs.declared.Number.{Number}
+use Rattle.number.specs.declared.Number.the-variants.{Value, Bad}
 
 -- ---- limits
 

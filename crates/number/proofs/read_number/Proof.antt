@@ -4,9 +4,9 @@ use Prim.Native.Nat.{_-_, _≤_}
 use lib.ListN.{length}
 use native.Mathlib.Omega.{arith}
 use borrow.Author.Needs.{needs}
-use Rattle.scan.proofs.Digits.{Read, read-start, read-more, read-refused, read-over, number-none, number-long}
-use Rattle.scan.proofs.number.read_number.Statement.{statement}
-use Rattle.scan.proofs.number.read_number.Tie as tie
+use Rattle.number.proofs.Digits.{Read, read-start, read-more, read-refused, read-over, number-none, number-long}
+use Rattle.number.proofs.read_number.Statement.{statement}
+use Rattle.number.proofs.read_number.Tie as tie
 
 abbrev Inv-loop : tie.InvT-loop
 Inv-loop word most value₀ i₀ i-end value i = (i ≤ length word) × (i-end ≡ length word) × Read most word i value

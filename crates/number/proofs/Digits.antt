@@ -13,10 +13,10 @@ use Rattle.loops.specs.Search.{all}
 use Rattle.loops.proofs.Search.{Searched, search-start, search-miss, search-over, all-fails}
 use Rattle.loops.proofs.Turns.{upTo-zero, upTo-more}
 use Rattle.text.specs.Bytes.{digit, minus}
-use Rattle.scan.specs.declared.number.Number.{Number}
-use Rattle.scan.specs.declared.number.Number.the-variants.{Value, Bad}
-use Rattle.scan.specs.Numbers.{digitsMost, isDigit, valueOf, isNumber, numberOf, moreOf, voteMost, minusMost, negatedOf, voteOf}
-use Rattle.scan.proofs.Parts.{rest-lent}
+use Rattle.number.specs.declared.Number.{Number}
+use Rattle.number.specs.declared.Number.the-variants.{Value, Bad}
+use Rattle.number.specs.Numbers.{digitsMost, isDigit, valueOf, isNumber, numberOf, moreOf, voteMost, minusMost, negatedOf, voteOf}
+use Rattle.number.proofs.Parts.{rest-lent}
 
 -- ---- a digit more
 

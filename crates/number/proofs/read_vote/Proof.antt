@@ -1,12 +1,12 @@
 -- A word that begins with a minus sign is the number after it, negated; any other is a number by itself.
 use mathlib.Core.Path.{sym, _∙_}
 use borrow.Author.Tests.{ne-eqb}
-use Rattle.scan.specs.declared.number.Number.the-variants.{Value, Bad}
-use Rattle.scan.specs.Numbers.{voteOf}
-use Rattle.scan.proofs.Digits.{vote-none, vote-minus}
+use Rattle.number.specs.declared.Number.the-variants.{Value, Bad}
+use Rattle.number.specs.Numbers.{voteOf}
+use Rattle.number.proofs.Digits.{vote-none, vote-minus}
 use borrow.Author.Needs.{needs}
-use Rattle.scan.proofs.number.read_vote.Statement.{statement}
-use Rattle.scan.proofs.number.read_vote.Tie as tie
+use Rattle.number.proofs.read_vote.Statement.{statement}
+use Rattle.number.proofs.read_vote.Tie as tie
 
 none : tie.Need-returns
 none c = sym (vote-none _ (c .if1 .taken))
