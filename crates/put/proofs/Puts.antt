@@ -4,10 +4,9 @@ use mathlib.Core.List.{List, [], _∷_, _++_}
 use Prim.Native.Nat.{ℕ, suc, _+_, _<_}
 use native.Mathlib.Nat.{add-zero, add-suc, suc-add, add-assoc}
 use native.Mathlib.Numerals.{add-one}
-use native.Mathlib.Omega.{arith}
 use lib.ListN.{length, getD, set, drop, length-append}
-use lib.Seq.{sets, drop-cons, drop-length, length-sets}
-use Rattle.put.specs.Put.{Put, Room}
+use lib.Seq.{sets, drop-cons, drop-length}
+use Rattle.put.specs.Put.{Put}
 
 pub sets-append : (out : List ℕ) (at : ℕ) (xs ys : List ℕ) → sets out at (xs ++ ys) ≡ sets (sets out at xs) (at + length xs) ys
 sets-append out at [] ys = rw add-zero
@@ -25,15 +24,6 @@ put-then {out} {out₁} {out₂} {at} {m} {n} {xs} {ys} p q =
       next = q .next ∙ ap (λ i. i + length ys) (p .next) ∙ add-assoc at (length xs) (length ys) ∙ ap (λ i. at + i) (sym (length-append xs ys));
       after = q .after ∙ ap (λ l. sets l m ys) (p .after) ∙ ap (λ i. sets (sets out at xs) i ys) (p .next) ∙ sym (sets-append out at xs ys);
     }
-
--- ---- room for two writers, one after the other
-
-pub room-first : (out : List ℕ) (at : ℕ) (xs ys : List ℕ) → Room out at (xs ++ ys) → Room out at xs
-room-first out at xs ys h = omega (arith, length-append xs ys)
-
-pub room-next : {out out₁ : List ℕ} {at m : ℕ} {xs : List ℕ} → Put out at xs m out₁ → (ys : List ℕ) → Room out at (xs ++ ys) → Room out₁ m ys
-room-next {out} {out₁} {at} {m} {xs} p ys h =
-    omega (arith, length-append xs ys, p .next, ap length (p .after), length-sets out at xs)
 
 -- ---- a text, byte by byte
 

@@ -1,5 +1,4 @@
 // Writers into a lent buffer: bytes from an offset on, and the offset after them. Every other byte stays.
-ghost use lib.ListN.{length};
 ghost use Rattle.put.specs.Put.{Put, Room};
 ghost use Rattle.put.specs.Decimal.{decimal, signed};
 

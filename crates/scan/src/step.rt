@@ -1,8 +1,8 @@
 // The next word of a line, read at the place where the word before it ends.
+use crate::word::word_end;
 use number::Number;
 use number::read_number;
 use number::read_vote;
-use crate::word::word_end;
 ghost use mathlib.Core.Path.{_≡_};
 ghost use Prim.Native.Nat.{_≤_, _<_};
 ghost use lib.ListN.{length};

@@ -10,7 +10,7 @@ put-number-requires : tie.Need-put-number-requires
 put-number-requires c κs = let S = c .before .before in omega (arith, decimal-length (S .args .v) (S .fits .v .fits))
 
 slice-write-out : tie.Need-slice-write-out
-slice-write-out c = 
+slice-write-out c =
     let N = c .before .before in
     let S = N .before .before .before in
     omega (arith, decimal-length (S .args .v) (S .fits .v .fits), N .put-number .ensures .next, N .put-number .kept .0)
