@@ -17,7 +17,7 @@ use Rattle.rules.specs.Sound.{Ledger}
 use Rattle.rules.specs.Calls.{readBy}
 use Rattle.rules.specs.Listing.{listCall}
 use Rattle.laws.proofs.Tested.{tested-known, tested-sound}
-use Rattle.print.specs.Put.{Put}
+use Rattle.put.specs.Put.{Put}
 use Rattle.print.specs.Print.{callPrints, readingPrints}
 use Rattle.parse.specs.declared.command.Command.{Command}
 use Rattle.parse.specs.Line.{lineSays}

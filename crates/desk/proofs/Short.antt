@@ -16,10 +16,10 @@ use Rattle.rules.specs.IsSound.{isSound}
 use Rattle.rules.specs.Calls.{readBy, queryCall, acceptedCall, leadCall, confidenceCall, sizeCall}
 use Rattle.laws.proofs.Calls.{refusalNumber-within}
 use Rattle.text.specs.Bytes.{lineFeed}
-use Rattle.print.specs.Decimal.{decimal, sign, signed}
+use Rattle.put.specs.Decimal.{decimal, sign, signed}
 use Rattle.print.specs.Print.{refusedText, refusalPrints, readingPrints, callPrints, answerMost}
-use Rattle.print.proofs.Decimals.{decimal-length}
-use Rattle.print.proofs.Signs.{sign-length}
+use Rattle.put.proofs.Decimals.{decimal-length}
+use Rattle.put.proofs.Signs.{sign-length}
 use Rattle.promises.specs.Ranges.{Between}
 use Rattle.promises.proofs.Ranges.{ranges}
 

@@ -11,7 +11,7 @@ use Rattle.rules.specs.Layout.{size}
 use Rattle.rules.specs.IsSound.{isSound}
 use Rattle.rules.specs.Calls.{openCall, bookCall, pollCall, readBy}
 use Rattle.rules.specs.Listing.{listCall}
-use Rattle.print.specs.Put.{Put}
+use Rattle.put.specs.Put.{Put}
 use Rattle.print.specs.Print.{badLine, refusalPrints, readingPrints, callPrints}
 use Rattle.parse.specs.declared.command.Command.{Command}
 use Rattle.parse.specs.declared.command.Command.the-variants.{Open, Book, Poll, Read, List as ListAll, Bad}

@@ -14,10 +14,10 @@ use Rattle.rules.specs.Sound.{Ledger}
 use Rattle.rules.specs.Listing.{listRow}
 use Rattle.laws.proofs.Slots.{slotOf-lt}
 use Rattle.laws.proofs.Readings.{confidence-le}
-use Rattle.print.specs.Put.{Put}
-use Rattle.print.specs.Print.{listHeader, rowPrints}
-use Rattle.print.proofs.Puts.{put-none, put-then}
-use Rattle.print.proofs.Decimals.{decimal-length}
+use Rattle.put.specs.Put.{Put}
+use Rattle.columns.specs.Columns.{listHeader, rowPrints}
+use Rattle.put.proofs.Puts.{put-none, put-then}
+use Rattle.put.proofs.Decimals.{decimal-length}
 use Rattle.listing.specs.Listed.{rowsPrint, listPrints, rowMost, lineMost}
 
 -- a writer keeps the buffer's length

@@ -7,8 +7,8 @@ use Rattle.loops.specs.Turns.{upTo}
 use Rattle.text.specs.Bytes.{bytes}
 use Rattle.terms.specs.declared.answer.Reading.the-variants.{Query, Accepted, Lead, Confidence, Size}
 use Rattle.scan.specs.Words.{words, wordEnd, wordsAfter}
-use Rattle.scan.specs.Numbers.{valueOf, isNumber, numberOf, voteOf}
-use Rattle.scan.specs.Keywords.{isSame}
+use Rattle.number.specs.Numbers.{valueOf, isNumber, numberOf, voteOf}
+use Rattle.keyword.specs.Keywords.{isSame}
 use Rattle.scan.specs.Lists.{leading, manyOf}
 use Rattle.parse.specs.declared.command.Command.the-variants.{Open, Book, Poll, Read, List as ListAll, Bad}
 use Rattle.parse.specs.Line.{Said, alone, openSays, readSays, bookSays, pollSays, lineSays}

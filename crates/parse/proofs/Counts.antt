@@ -12,8 +12,8 @@ use Rattle.terms.specs.declared.setting.Setting.{Setting}
 use Rattle.scan.specs.declared.many.Many.{Many}
 use Rattle.scan.specs.declared.many.Many.the-variants.{Count, Refused}
 use Rattle.terms.specs.declared.answer.Reading.{Reading}
-use Rattle.scan.specs.declared.keyword.Keyword.{Keyword}
-use Rattle.scan.specs.declared.keyword.Keyword.the-variants.{
+use Rattle.keyword.specs.declared.Keyword.{Keyword}
+use Rattle.keyword.specs.declared.Keyword.the-variants.{
   Open as openWord,
   Book as bookWord,
   Poll as pollWord,
@@ -22,8 +22,8 @@ use Rattle.scan.specs.declared.keyword.Keyword.the-variants.{
   Unknown,
 }
 use Rattle.scan.specs.Words.{words}
-use Rattle.scan.specs.Numbers.{nameOf, shortOf, voteOf}
-use Rattle.scan.specs.Keywords.{keywordOf}
+use Rattle.number.specs.Numbers.{nameOf, shortOf, voteOf}
+use Rattle.keyword.specs.Keywords.{keywordOf}
 use Rattle.scan.specs.Lists.{openMost, parentsMost, votesMost, leading, manyOf}
 use Rattle.scan.proofs.Leading.{many-count, leading-length}
 use Rattle.parse.specs.declared.command.Command.{Command}

@@ -6,14 +6,14 @@ use native.Mathlib.Decide.{decLt}
 use native.Mathlib.Omega.{arith}
 use lib.ListN.{length}
 use lib.Seq.{sets}
-use Rattle.scan.specs.declared.number.Number.{Number}
+use Rattle.number.specs.declared.Number.{Number}
 use Rattle.scan.specs.declared.step.Step.the-variants.{Next, Stop}
 use Rattle.scan.specs.Words.{wordsAfter}
 use Rattle.scan.specs.Steps.{stepOf}
 use Rattle.scan.specs.declared.many.Many.{Many}
 use Rattle.parse.specs.declared.command.Command.{Command}
 use Rattle.parse.specs.declared.command.Command.the-variants.{Bad}
-use Rattle.scan.specs.Numbers.{nameOf, voteOf}
+use Rattle.number.specs.Numbers.{nameOf, voteOf}
 use Rattle.scan.specs.Lists.{parentsMost, votesMost, Listed}
 use Rattle.parse.specs.Line.{
   number,

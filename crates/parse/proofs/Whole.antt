@@ -4,13 +4,13 @@ use mathlib.Core.List.{List, [], _∷_}
 use Prim.Native.Nat.{ℕ}
 use lib.ListN.{take}
 use lib.Seq.{sets}
-use Rattle.scan.specs.declared.number.Number.{Number}
-use Rattle.scan.specs.declared.number.Number.the-variants.{Value, Bad as NoNumber}
+use Rattle.number.specs.declared.Number.{Number}
+use Rattle.number.specs.declared.Number.the-variants.{Value, Bad as NoNumber}
 use Rattle.parse.specs.declared.command.Command.{Command}
 use Rattle.parse.specs.declared.command.Command.the-variants.{Bad}
-use Rattle.scan.specs.declared.keyword.Keyword.{Keyword}
+use Rattle.keyword.specs.declared.Keyword.{Keyword}
 use Rattle.scan.specs.Words.{wordEnd, wordsAfter}
-use Rattle.scan.specs.Keywords.{keywordOf}
+use Rattle.keyword.specs.Keywords.{keywordOf}
 use Rattle.parse.specs.Line.{valued, number, alone, bookSays, pollSays, keywordSays, wordsSay, lineSays, Booked, Polled, Parsed}
 use Rattle.scan.proofs.Split.{words-first}
 

@@ -7,15 +7,15 @@ use lib.ListN.{getD}
 use lib.Seq.{sets}
 use lib.Dec.{ltb}
 use Rattle.terms.specs.declared.setting.Setting.{Setting}
-use Rattle.scan.specs.declared.number.Number.{Number}
-use Rattle.scan.specs.declared.number.Number.the-variants.{Value, Bad as NoNumber}
+use Rattle.number.specs.declared.Number.{Number}
+use Rattle.number.specs.declared.Number.the-variants.{Value, Bad as NoNumber}
 use Rattle.scan.specs.declared.many.Many.{Many}
 use Rattle.scan.specs.declared.many.Many.the-variants.{Count, Refused}
 use Rattle.terms.specs.declared.answer.Reading.{Reading}
 use Rattle.parse.specs.declared.command.Command.{Command}
 use Rattle.parse.specs.declared.command.Command.the-variants.{Open, Book, Poll, Read, List as ListAll, Bad}
-use Rattle.scan.specs.declared.keyword.Keyword.{Keyword}
-use Rattle.scan.specs.declared.keyword.Keyword.the-variants.{
+use Rattle.keyword.specs.declared.Keyword.{Keyword}
+use Rattle.keyword.specs.declared.Keyword.the-variants.{
   Open as openWord,
   Book as bookWord,
   Poll as pollWord,
@@ -24,8 +24,8 @@ use Rattle.scan.specs.declared.keyword.Keyword.the-variants.{
   Unknown,
 }
 use Rattle.scan.specs.Words.{words}
-use Rattle.scan.specs.Numbers.{shortMost, nameOf, shortOf, voteOf}
-use Rattle.scan.specs.Keywords.{keywordOf}
+use Rattle.number.specs.Numbers.{shortMost, nameOf, shortOf, voteOf}
+use Rattle.keyword.specs.Keywords.{keywordOf}
 use Rattle.scan.specs.Lists.{openMost, parentsMost, votesMost, leading, manyOf}
 
 -- ---- what is told from the words in turn

@@ -3,7 +3,7 @@ pub mod command;
 mod line;
 
 use command::Command;
-use scan::keyword::Keyword;
+use keyword::Keyword;
 ghost use Rattle.parse.specs.Line.{Parsed};
 
 // The parents of a booking and the votes of a poll are written to the start of the lent buffers.
@@ -11,7 +11,7 @@ pub fn parse(line: &[u8], parents: &mut [u64; 16], votes: &mut [u8; 64]) -> Comm
     ensures { λ r. ⌜ Parsed (now (line .entry)) (now (parents .entry)) (now (votes .entry)) r (now (parents .exit)) (now (votes .exit)) ⌝ }
 {
     let end = scan::word::word_end(line);
-    match scan::keyword::read_keyword(&line[..end]) {
+    match keyword::read_keyword(&line[..end]) {
         Keyword::Open => line::read_open(line, end),
         Keyword::Book => line::read_book(line, end, parents),
         Keyword::Poll => line::read_poll(line, end, votes),

@@ -1,6 +1,2 @@
--- Laws of the definitions in specs/, cited by the proofs of the functions. They assume nothing.
-pub mod Puts
-pub mod Decimals
-pub mod Signs
-pub mod Rows
+-- What follows from the definitions in specs/. It assumes nothing.
 pub mod Cases

@@ -10,16 +10,16 @@ use native.Mathlib.Omega.{arith}
 use lib.ListN.{length, getD, set}
 use lib.Seq.{sets, sets-eq, drop-length}
 use borrow.Author.Tests.{eq-eqb, ne-eqb, eqb-true}
-use Rattle.scan.specs.declared.number.Number.{Number}
-use Rattle.scan.specs.declared.number.Number.the-variants.{Value, Bad}
+use Rattle.number.specs.declared.Number.{Number}
+use Rattle.number.specs.declared.Number.the-variants.{Value, Bad}
 use Rattle.scan.specs.declared.many.Many.{Many}
 use Rattle.scan.specs.declared.many.Many.the-variants.{Count, Refused}
 use Rattle.scan.specs.declared.step.Step.the-variants.{Next, Stop}
 use Rattle.scan.specs.Words.{wordsAfter}
-use Rattle.scan.specs.Numbers.{numberOf}
+use Rattle.number.specs.Numbers.{numberOf}
 use Rattle.scan.specs.Steps.{stepOf}
 use Rattle.scan.specs.Lists.{ahead, leading, isList, manyOf, Listed}
-use Rattle.scan.proofs.Digits.{number-le}
+use Rattle.number.proofs.Digits.{number-le}
 use Rattle.scan.proofs.Split.{wordsAfter-next, wordsAfter-end}
 use Rattle.scan.proofs.Walk.{step-next, step-stop}
 

@@ -5,8 +5,8 @@ use Prim.Native.Nat.{ℕ, _+_, _-_, _<_, _≤_}
 use native.Mathlib.Omega.{arith}
 use lib.ListN.{length, take, drop}
 use borrow.Author.Tests.{lt-ltb, le-ltb}
-use Rattle.scan.specs.declared.number.Number.{Number}
-use Rattle.scan.specs.declared.number.Number.the-variants.{Value, Bad}
+use Rattle.number.specs.declared.Number.{Number}
+use Rattle.number.specs.declared.Number.the-variants.{Value, Bad}
 use Rattle.scan.specs.declared.step.Step.{Step}
 use Rattle.scan.specs.declared.step.Step.the-variants.{Next, Stop}
 use Rattle.scan.specs.Words.{wordEnd, wordsAfter}
@@ -51,9 +51,9 @@ module _ (reader : List ℕ → Number) (line : List ℕ) (at : ℕ) where
       go (Value u) r s = absurd (let z : _≡_ {A = ℕ} 0 1 = cc in omega arith)
       go Bad r s = r
 
-  -- a step as the code makes it: the part of the line from at + 1 to the end of the word
-  pub step-made : (n : Number) (end : ℕ) (s : Step) → at < length line → end ≡ endAfter line at
-      → n ≡ reader (take (end - (at + 1)) (drop (at + 1) line)) → s ≡ stepBy n end → s ≡ stepOf reader line at
-  step-made n end s h e r q =
+  -- a step as the code makes it: the part of the line from at + 1 to the end of the word is read
+  pub step-made : (n : Number) (end : ℕ) → at < length line → end ≡ endAfter line at
+      → n ≡ reader (take (end - (at + 1)) (drop (at + 1) line)) → stepBy n end ≡ stepOf reader line at
+  step-made n end h e r =
       let d : end - (at + 1) ≡ wordEnd (drop (at + 1) line) = omega arith in
-      q ∙ ap₂ stepBy (r ∙ ap (λ k. reader (take k (drop (at + 1) line))) d) e ∙ sym (step-here h)
+      ap₂ stepBy (r ∙ ap (λ k. reader (take k (drop (at + 1) line))) d) e ∙ sym (step-here h)

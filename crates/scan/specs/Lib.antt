@@ -1,6 +1,4 @@
--- What the words of a line are: its first word, numbers, votes, and lists of them.
+-- What the words of a line are: where they end, numbers, votes, and lists of them.
 pub mod Words
-pub mod Numbers
 pub mod Steps
 pub mod Lists
-pub mod Keywords

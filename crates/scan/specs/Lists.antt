@@ -6,8 +6,8 @@ use mathlib.Core.List.{List, [], _∷_}
 use lib.ListN.{length}
 use lib.Seq.{sets}
 use lib.Dec.{eqb}
-use Rattle.scan.specs.declared.number.Number.{Number}
-use Rattle.scan.specs.declared.number.Number.the-variants.{Value, Bad}
+use Rattle.number.specs.declared.Number.{Number}
+use Rattle.number.specs.declared.Number.the-variants.{Value, Bad}
 use Rattle.scan.specs.declared.many.Many.{Many}
 use Rattle.scan.specs.declared.many.Many.the-variants.{Count, Refused}
 

@@ -1,6 +1,4 @@
-// The words of a line: the one that begins it, numbers, votes, and lists of them. What each means is in specs/.
-pub mod keyword;
+// The words of a line: where they end, numbers, votes, and lists of them. What each means is in specs/.
 pub mod many;
-pub mod number;
 pub mod step;
 pub mod word;

@@ -5,7 +5,7 @@ use crate::step::next_vote;
 ghost use lib.ListN.{length};
 ghost use Prim.Native.Nat.{_≤_};
 ghost use Rattle.scan.specs.Words.{wordsAfter};
-ghost use Rattle.scan.specs.Numbers.{numberOf, voteOf};
+ghost use Rattle.number.specs.Numbers.{numberOf, voteOf};
 ghost use Rattle.scan.specs.Lists.{Listed};
 
 // How many numbers, or that some word is none or that they are too many.

@@ -1,28 +1,18 @@
 // The next word of a line, read at the place where the word before it ends.
-use crate::number::Number;
-use crate::number::read_number;
-use crate::number::read_vote;
 use crate::word::word_end;
+use number::Number;
+use number::read_number;
+use number::read_vote;
 ghost use mathlib.Core.Path.{_≡_};
 ghost use Prim.Native.Nat.{_≤_, _<_};
 ghost use lib.ListN.{length};
-ghost use Rattle.scan.specs.Numbers.{numberOf, voteOf};
-ghost use Rattle.scan.specs.Steps.{endAfter, stepBy, stepOf};
+ghost use Rattle.number.specs.Numbers.{numberOf, voteOf};
+ghost use Rattle.scan.specs.Steps.{endAfter, stepOf};
 
 // The value of the next word and where it ends, or that there is no word or that it is no number.
 pub enum Step {
     Next(u64, usize),
     Stop,
-}
-
-// The step that a word makes which ends there.
-fn step_by(n: Number, end: usize) -> Step
-    ensures { λ r. ⌜ r ≡ stepBy n end ⌝ }
-{
-    match n {
-        Number::Value(value) => Step::Next(value, end),
-        Number::Bad => Step::Stop,
-    }
 }
 
 // Where the word ends that follows one which ends at a space.
@@ -44,11 +34,14 @@ pub fn next_number(line: &[u8], at: usize, most: u64) -> Step
     }
     let start = at + 1;
     let end = end_after(line, at);
-    step_by(read_number(&line[start..end], most), end)
+    let Number::Value(value) = read_number(&line[start..end], most) else {
+        return Step::Stop;
+    };
+    Step::Next(value, end)
 }
 
 // The next word as a vote.
-pub fn next_vote(line: &[u8], at: usize) -> Step
+pub(crate) fn next_vote(line: &[u8], at: usize) -> Step
     ensures { λ r. ⌜ r ≡ stepOf voteOf (now (line .entry)) at ⌝ }
 {
     if line.len() <= at {
@@ -56,5 +49,8 @@ pub fn next_vote(line: &[u8], at: usize) -> Step
     }
     let start = at + 1;
     let end = end_after(line, at);
-    step_by(read_vote(&line[start..end]), end)
+    let Number::Value(vote) = read_vote(&line[start..end]) else {
+        return Step::Stop;
+    };
+    Step::Next(vote, end)
 }

@@ -5,7 +5,7 @@ use Rattle.terms.specs.Answers.{outcome, done}
 use Rattle.rules.specs.IsSound.{isSound}
 use Rattle.laws.proofs.Good.{isGood→Good}
 use Rattle.laws.proofs.Opened.{opened-isSound}
-use Rattle.print.proofs.Puts.{put-none}
+use Rattle.put.proofs.Puts.{put-none}
 use Rattle.desk.proofs.Known.{open-good, open-bad}
 use Rattle.desk.proofs.Serving.{serves-called}
 use Rattle.desk.proofs.serve_open.Statement.{statement}

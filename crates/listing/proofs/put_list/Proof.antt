@@ -3,7 +3,7 @@ use mathlib.Core.Path.{ap, _∙_}
 use native.Mathlib.Omega.{arith}
 use borrow.Author.Needs.{needs}
 use Rattle.rules.specs.Readings.{acceptedBelow}
-use Rattle.print.proofs.Puts.{put-then}
+use Rattle.put.proofs.Puts.{put-then}
 use Rattle.listing.specs.Listed.{listPrints}
 use Rattle.listing.proofs.Rows.{put-length}
 use Rattle.listing.proofs.put_list.Statement.{statement}

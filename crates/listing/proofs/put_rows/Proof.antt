@@ -5,7 +5,7 @@ use lib.ListN.{length}
 use native.Mathlib.Omega.{arith}
 use borrow.Author.Needs.{needs}
 use Rattle.rules.specs.Layout.{bookings}
-use Rattle.print.specs.Put.{Put}
+use Rattle.put.specs.Put.{Put}
 use Rattle.listing.specs.Listed.{rowsPrint, rowMost}
 use Rattle.listing.proofs.Rows.{put-length, rows-length, rows-none, rows-more}
 use Rattle.listing.proofs.put_rows.Statement.{statement}

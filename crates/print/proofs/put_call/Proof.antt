@@ -1,6 +1,6 @@
 -- A taken call prints nothing, a refused one its refusal.
 use borrow.Author.Needs.{needs}
-use Rattle.print.proofs.Puts.{put-none}
+use Rattle.put.proofs.Puts.{put-none}
 use Rattle.print.proofs.put_call.Statement.{statement}
 use Rattle.print.proofs.put_call.Tie as tie
 

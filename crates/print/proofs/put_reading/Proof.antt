@@ -5,8 +5,8 @@ use mir.Syntax.{w64}
 use mir.Val.{SFits, toZ, ofZ}
 use mir.ValLaws.{toZ-ofZ}
 use borrow.Author.Needs.{needs}
-use Rattle.print.proofs.Puts.{put-then}
-use Rattle.print.proofs.Rows.{signed-length}
+use Rattle.put.proofs.Puts.{put-one, put-then}
+use Rattle.put.proofs.Signs.{signed-length}
 use Rattle.print.proofs.put_reading.Statement.{statement}
 use Rattle.print.proofs.put_reading.Tie as tie
 
@@ -23,11 +23,20 @@ enum-known-answer c = search needs
 put-signed-requires : tie.Need-put-signed-requires
 put-signed-requires c κs = let A = c .before in rw (read A) (omega (arith, signed-length (A .before .answer .given .0 .0) (value-fits A)))
 
-put-byte-requires : tie.Need-put-byte-requires
-put-byte-requires c κs =
-    let P = c .before .before .before in
+slice-write-out : tie.Need-slice-write-out
+slice-write-out c =
+    let P = c .before .before in
     let A = P .before .before in
     omega (arith, signed-length (A .before .answer .given .0 .0) (value-fits A), (rw (read A) at (P .put-signed .ensures)) .next, P .put-signed .kept .0)
+
+add-result : tie.Need-add-result
+add-result c =
+    let P = c .before .before in
+    let A = P .before .before in
+    omega (arith, signed-length (A .before .answer .given .0 .0) (value-fits A), (rw (read A) at (P .put-signed .ensures)) .next, A .before .before .before .before .good .0 .0)
+
+same-length : tie.Need-same-length
+same-length c = search needs
 
 enum-known-answer-2 : tie.Need-enum-known-answer-2
 enum-known-answer-2 c = search needs
@@ -35,14 +44,11 @@ enum-known-answer-2 c = search needs
 put-refusal-requires : tie.Need-put-refusal-requires
 put-refusal-requires c κs = search needs
 
-same-length : tie.Need-same-length
-same-length c = search needs
-
 taken : tie.Need-returns
 taken c =
-    let P = c .before .before .before .before .before .before in
+    let P = c .before .before in
     let A = P .before .before in
-    rw (A .before .answer .given .1) (put-then (rw (read A) at (P .put-signed .ensures)) (c .before .before .put-byte .ensures))
+    rw (A .before .answer .given .1) (put-then (rw (read A) at (P .put-signed .ensures)) (put-one _ _ _))
 
 same-length-2 : tie.Need-same-length-2
 same-length-2 c = search needs
@@ -56,7 +62,8 @@ put-reading-spec =
     (tie.spec
     enum-known-answer
     put-signed-requires
-    put-byte-requires
+    slice-write-out
+    add-result
     enum-known-answer-2
     put-refusal-requires
     same-length

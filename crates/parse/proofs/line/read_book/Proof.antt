@@ -3,9 +3,9 @@ use mathlib.Core.Path.{sym, _∙_}
 use native.Mathlib.Omega.{arith}
 use Rattle.parse.specs.declared.command.Command.the-variants.{Bad}
 use Rattle.scan.specs.Words.{wordsAfter}
-use Rattle.scan.specs.Numbers.{shortMost, nameOf, shortOf}
+use Rattle.number.specs.Numbers.{shortMost, nameOf, shortOf}
 use Rattle.parse.specs.Line.{alone, bookSays}
-use Rattle.scan.proofs.Digits.{number-le}
+use Rattle.number.proofs.Digits.{number-le}
 use Rattle.parse.proofs.Grammar.{stepped, number-next, number-stop, booked-bad, booked-listed}
 use borrow.Author.Needs.{needs}
 use Rattle.parse.proofs.line.read_book.Statement.{statement}

@@ -3,7 +3,7 @@ use mathlib.Core.Path.{refl, sym, ap, _∙_}
 use borrow.Author.Tests.{lt-ltb, le-ltb}
 use Rattle.parse.specs.declared.command.Command.the-variants.{Open}
 use Rattle.scan.specs.Words.{wordsAfter}
-use Rattle.scan.specs.Numbers.{shortMost}
+use Rattle.number.specs.Numbers.{shortMost}
 use Rattle.scan.specs.Lists.{openMost}
 use Rattle.parse.specs.Line.{settingOf, openSays}
 use Rattle.scan.proofs.Leading.{leading-le, listed-whole}

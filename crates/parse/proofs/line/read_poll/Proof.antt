@@ -2,7 +2,7 @@
 use mathlib.Core.Path.{sym, _∙_}
 use Rattle.parse.specs.declared.command.Command.the-variants.{Bad}
 use Rattle.scan.specs.Words.{wordsAfter}
-use Rattle.scan.specs.Numbers.{nameOf}
+use Rattle.number.specs.Numbers.{nameOf}
 use Rattle.parse.specs.Line.{alone, pollSays}
 use Rattle.parse.proofs.Grammar.{stepped, number-next, number-stop, polled-bad, polled-listed}
 use borrow.Author.Needs.{needs}

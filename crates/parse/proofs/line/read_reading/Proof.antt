@@ -1,7 +1,7 @@
 -- A name and nothing after it, or the line is bad.
 use mathlib.Core.Path.{sym, _∙_}
 use Rattle.parse.specs.declared.command.Command.the-variants.{Bad}
-use Rattle.scan.specs.Numbers.{nameOf}
+use Rattle.number.specs.Numbers.{nameOf}
 use Rattle.parse.specs.Line.{readSays}
 use Rattle.parse.proofs.Grammar.{number-next, number-stop, nothing-end, nothing-more}
 use borrow.Author.Needs.{needs}

@@ -5,7 +5,7 @@ use lib.ListN.{length, length-set}
 use native.Mathlib.Omega.{arith}
 use borrow.Author.Needs.{needs}
 use Rattle.scan.specs.Words.{wordsAfter}
-use Rattle.scan.specs.Numbers.{numberOf}
+use Rattle.number.specs.Numbers.{numberOf}
 use Rattle.scan.proofs.Walk.{step-next}
 use Rattle.scan.proofs.Leading.{Left, left-start, at-over, at-full, at-refused, at-more}
 use Rattle.scan.proofs.many.read_numbers.Statement.{statement}

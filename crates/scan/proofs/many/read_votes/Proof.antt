@@ -5,8 +5,8 @@ use lib.ListN.{length, length-set}
 use native.Mathlib.Omega.{arith}
 use borrow.Author.Needs.{needs}
 use Rattle.scan.specs.Words.{wordsAfter}
-use Rattle.scan.specs.Numbers.{voteOf}
-use Rattle.scan.proofs.Digits.{vote-lt}
+use Rattle.number.specs.Numbers.{voteOf}
+use Rattle.number.proofs.Digits.{vote-lt}
 use Rattle.scan.proofs.Walk.{step-next}
 use Rattle.scan.proofs.Leading.{Left, left-start, at-over, at-full, at-refused, at-more}
 use Rattle.scan.proofs.many.read_votes.Statement.{statement}

@@ -4,7 +4,7 @@ use Prim.Native.Nat.{_+_}
 use native.Mathlib.Omega.{arith}
 use Rattle.scan.specs.Words.{wordEnd}
 use Rattle.scan.specs.Steps.{endAfter}
-use Rattle.scan.proofs.Parts.{rest-lent}
+use Rattle.number.proofs.Parts.{rest-lent}
 use Rattle.scan.proofs.Split.{endAfter-le}
 use borrow.Author.Needs.{needs}
 use Rattle.scan.proofs.step.end_after.Statement.{statement}

@@ -1,6 +1,7 @@
 -- Past the end there is no word; any other is the part of the line up to where it ends.
-use mathlib.Core.Path.{sym}
-use Rattle.scan.specs.Numbers.{numberOf}
+use mathlib.Core.Path.{sym, _∙_}
+use Rattle.number.specs.declared.Number.the-variants.{Value, Bad}
+use Rattle.number.specs.Numbers.{numberOf}
 use Rattle.scan.proofs.Walk.{step-none, step-made}
 use borrow.Author.Needs.{needs}
 use Rattle.scan.proofs.step.next_number.Statement.{statement}
@@ -27,14 +28,26 @@ part-read-number-end c = search needs
 read-number-requires : tie.Need-read-number-requires
 read-number-requires c κs = search needs
 
-step-by-requires : tie.Need-step-by-requires
-step-by-requires c κs = search needs
+enum-known-value : tie.Need-enum-known-value
+enum-known-value c = search needs
 
-stepped : tie.Need-returns-2
-stepped c =
-    let E = c .before .before .before in
+enum-told : tie.Need-enum-told
+enum-told c = search needs
+
+stopped : tie.Need-returns-2
+stopped c =
+    let R = c .before .before in
+    let E = R .before .before in
     let S = E .before .before .before in
-    step-made (numberOf (S .args .most)) (S .args .line .now) (S .args .at) _ _ _ (E .before .if1 .left) (E .end-after .ensures .0) (c .before .read-number .ensures) (c .step-by .ensures)
+    step-made (numberOf (S .args .most)) (S .args .line .now) (S .args .at) Bad _ (E .before .if1 .left) (E .end-after .ensures .0) (sym (c .enum-told .given .1) ∙ R .read-number .ensures)
+
+stepped : tie.Need-returns-3
+stepped c =
+    let K = c .before in
+    let R = K .before .before in
+    let E = R .before .before in
+    let S = E .before .before .before in
+    step-made (numberOf (S .args .most)) (S .args .line .now) (S .args .at) (Value _) _ (E .before .if1 .left) (E .end-after .ensures .0) (sym (K .value .given .1) ∙ R .read-number .ensures)
 
 pub next-number-spec : {M : Type 1} → statement M
 next-number-spec =
@@ -47,5 +60,7 @@ next-number-spec =
     part-read-number-start
     part-read-number-end
     read-number-requires
-    step-by-requires
+    enum-known-value
+    enum-told
+    stopped
     stepped)

@@ -1,6 +1,7 @@
 -- Past the end there is no word; any other is the part of the line up to where it ends.
-use mathlib.Core.Path.{sym}
-use Rattle.scan.specs.Numbers.{voteOf}
+use mathlib.Core.Path.{sym, _∙_}
+use Rattle.number.specs.declared.Number.the-variants.{Value, Bad}
+use Rattle.number.specs.Numbers.{voteOf}
 use Rattle.scan.proofs.Walk.{step-none, step-made}
 use borrow.Author.Needs.{needs}
 use Rattle.scan.proofs.step.next_vote.Statement.{statement}
@@ -27,14 +28,26 @@ part-read-vote-end c = search needs
 read-vote-requires : tie.Need-read-vote-requires
 read-vote-requires c κs = search needs
 
-step-by-requires : tie.Need-step-by-requires
-step-by-requires c κs = search needs
+enum-known-vote : tie.Need-enum-known-vote
+enum-known-vote c = search needs
 
-stepped : tie.Need-returns-2
-stepped c =
-    let E = c .before .before .before in
+enum-told : tie.Need-enum-told
+enum-told c = search needs
+
+stopped : tie.Need-returns-2
+stopped c =
+    let R = c .before .before in
+    let E = R .before .before in
     let S = E .before .before .before in
-    step-made voteOf (S .args .line .now) (S .args .at) _ _ _ (E .before .if1 .left) (E .end-after .ensures .0) (c .before .read-vote .ensures) (c .step-by .ensures)
+    step-made voteOf (S .args .line .now) (S .args .at) Bad _ (E .before .if1 .left) (E .end-after .ensures .0) (sym (c .enum-told .given .1) ∙ R .read-vote .ensures)
+
+stepped : tie.Need-returns-3
+stepped c =
+    let K = c .before in
+    let R = K .before .before in
+    let E = R .before .before in
+    let S = E .before .before .before in
+    step-made voteOf (S .args .line .now) (S .args .at) (Value _) _ (E .before .if1 .left) (E .end-after .ensures .0) (sym (K .vote .given .1) ∙ R .read-vote .ensures)
 
 pub next-vote-spec : {M : Type 1} → statement M
 next-vote-spec =
@@ -47,5 +60,7 @@ next-vote-spec =
     part-read-vote-start
     part-read-vote-end
     read-vote-requires
-    step-by-requires
+    enum-known-vote
+    enum-told
+    stopped
     stepped)

@@ -1,0 +1,3 @@
+-- Laws of the definitions in specs/, cited by the proofs of the functions. They assume nothing.
+pub mod Rows
+pub mod Cases

@@ -1,0 +1,2 @@
+-- What the listing's lines are.
+pub mod Columns

@@ -1,0 +1,2 @@
+-- What a word is worth.
+pub mod Numbers

@@ -1,0 +1,2 @@
+-- A law that joins printing and reading. It assumes nothing.
+pub mod Decimals
