@@ -4,7 +4,7 @@ ghost use Prim.Native.Nat.{_<_};
 ghost use lib.ListN.{length};
 ghost use Rattle.rules.specs.Layout.{size, mostBookings, nameOf};
 ghost use Rattle.rules.specs.IsSound.{nameNew};
-ghost use Rattle.names.specs.Names.{firstBit, secondBit, isNoted, noted, namesBelow};
+ghost use Rattle.names.specs.Names.{firstBit, secondBit, noted, namesBelow};
 
 // How many words a filter has.
 pub const FILTER_WORDS: usize = 124;
@@ -22,19 +22,11 @@ fn second_bit(name: u64) -> usize
     (name % 7741) as usize
 }
 
-// Both bits of the name are set, as they are if it was noted.
-fn is_noted(filter: &[u64], name: u64) -> bool
-    ensures { λ r. ⌜ r ≡ isNoted (now (filter .entry)) name ⌝ }
-{
-    bits::is_set(filter, first_bit(name)) & bits::is_set(filter, second_bit(name))
-}
-
 // No lower record has the name of record i: a look at each.
-fn look_back(w: &[u16], i: usize) -> bool
-    requires { ⌜ (length (now w) ≡ size) × (i < mostBookings) ⌝ }
+fn look_back(w: &[u16], i: usize, name: u64) -> bool
+    requires { ⌜ (length (now w) ≡ size) × (i < mostBookings) × (name ≡ nameOf (now w) i) ⌝ }
     ensures { λ r. ⌜ r ≡ nameNew (now (w .entry)) i ⌝ }
 {
-    let name = words::name(w, i);
     for j in 0..i {
         if words::name(w, j) == name {
             return false;
@@ -43,23 +35,19 @@ fn look_back(w: &[u16], i: usize) -> bool
     true
 }
 
-// No lower record has the name of record i, where the filter has the names of the lower ones.
-pub fn is_new(w: &[u16], i: usize, filter: &[u64]) -> bool
+// Notes the name of record i in the filter, which has those of the lower records, and tells whether none of them has it.
+pub fn enter(w: &[u16], i: usize, filter: &mut [u64]) -> bool
     requires { ⌜ (length (now w) ≡ size) × (i < mostBookings) × (now filter ≡ namesBelow (now w) i) ⌝ }
-    ensures { λ r. ⌜ r ≡ nameNew (now (w .entry)) i ⌝ }
-{
-    if is_noted(filter, words::name(w, i)) {
-        return look_back(w, i);
-    }
-    true
-}
-
-// Notes the name of record i.
-pub fn note(w: &[u16], i: usize, filter: &mut [u64])
-    requires { ⌜ (length (now w) ≡ size) × (i < mostBookings) ⌝ }
-    ensures { λ _. ⌜ now (filter .exit) ≡ noted (nameOf (now (w .entry)) i) (now (filter .entry)) ⌝ }
+    ensures { λ r. ⌜ (r ≡ nameNew (now (w .entry)) i) × (now (filter .exit) ≡ noted (nameOf (now (w .entry)) i) (now (filter .entry))) ⌝ }
 {
     let name = words::name(w, i);
-    bits::set_bit(filter, first_bit(name));
-    bits::set_bit(filter, second_bit(name));
+    let a = first_bit(name);
+    let b = second_bit(name);
+    let seen = bits::is_set(filter, a) & bits::is_set(filter, b);
+    bits::set_bit(filter, a);
+    bits::set_bit(filter, b);
+    if seen {
+        return look_back(w, i, name);
+    }
+    true
 }

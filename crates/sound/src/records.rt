@@ -7,7 +7,7 @@ ghost use Prim.Native.Nat.{_<_};
 ghost use lib.Dec.{ltb};
 ghost use Rattle.loops.specs.Search.{first};
 ghost use Rattle.rules.specs.Layout.{mostBookings, bookings, polls};
-ghost use Rattle.rules.specs.IsSound.{chits, bookingGood, recordGood, recordsGood, recordZero};
+ghost use Rattle.rules.specs.IsSound.{chits, nameNew, bookingGood, recordGood, recordsGood, recordZero};
 ghost use Rattle.names.specs.Names.{namesBelow};
 ghost use Rattle.header.specs.Counted.{Counted};
 ghost use Rattle.sound.specs.Ordinals.{ordinalsBelow, Reached};
@@ -24,14 +24,14 @@ pub(crate) fn chits(w: &[u16], n: usize) -> usize
     found
 }
 
-// A record below n other than the genesis, where the marks are the ordinals of the lower ones and the filter has their names.
-fn booking_good(w: &[u16], i: usize, marks: &[u64], filter: &[u64]) -> bool
-    requires { ⌜ Reached (now w) i (now marks) (now filter) ⌝ }
+// A record below n other than the genesis, where the marks are the ordinals of the lower ones and fresh tells that none of them has its name.
+fn booking_good(w: &[u16], i: usize, marks: &[u64], fresh: bool) -> bool
+    requires { ⌜ Reached (now w) i (now marks) × (fresh ≡ nameNew (now w) i) ⌝ }
     ensures { λ r. ⌜ r ≡ bookingGood (now (w .entry)) i ⌝ }
 {
     let s = record::word(w, i, layout::SLOT);
     let o = record::word(w, i, layout::ORDINAL);
-    names::is_new(w, i, filter)
+    fresh
         & (1 <= s)
         & (s < layout::SLOTS)
         & record::parents_good(w, i)
@@ -40,30 +40,29 @@ fn booking_good(w: &[u16], i: usize, marks: &[u64], filter: &[u64]) -> bool
 }
 
 // A record below n, where limit is the number of records in state 2.
-fn record_good(w: &[u16], i: usize, limit: usize, marks: &[u64], filter: &[u64]) -> bool
-    requires { ⌜ Reached (now w) i (now marks) (now filter) × (limit ≡ chits (now w)) ⌝ }
+fn record_good(w: &[u16], i: usize, limit: usize, marks: &[u64], fresh: bool) -> bool
+    requires { ⌜ Reached (now w) i (now marks) × (limit ≡ chits (now w)) × (fresh ≡ nameNew (now w) i) ⌝ }
     ensures { λ r. ⌜ r ≡ recordGood (now (w .entry)) i ⌝ }
 {
     let confidence = record::word(w, i, layout::CONFIDENCE);
     if i == 0 {
         return record::genesis_good(w) & (confidence <= limit);
     }
-    booking_good(w, i, marks, filter) & (confidence <= limit)
+    booking_good(w, i, marks, fresh) & (confidence <= limit)
 }
 
-// The lowest of the n records that breaks a rule, or n. The ordinals of those before it are marked then, and their names noted.
+// The lowest of the n records that breaks a rule, or n. The ordinals of those before it are marked then. The filter, of no names at first, is scratch.
 fn bad_record(w: &[u16], n: usize, limit: usize, marks: &mut [u64], filter: &mut [u64]) -> usize
-    requires { ⌜ Counted (now w) n × Reached (now w) 0 (now marks) (now filter) × (limit ≡ chits (now w)) ⌝ }
+    requires { ⌜ Counted (now w) n × Reached (now w) 0 (now marks) × (limit ≡ chits (now w)) × (now filter ≡ namesBelow (now w) 0) ⌝ }
     ensures { λ r. ⌜ (r ≡ first (λ i. not (recordGood (now (w .entry)) i)) n) × (now (marks .exit) ≡ ordinalsBelow (now (w .entry)) r) ⌝ }
-    ensures { λ r. ⌜ now (filter .exit) ≡ namesBelow (now (w .entry)) r ⌝ }
 {
     for i in 0..n {
-        if !record_good(w, i, limit, marks, filter) {
+        let fresh = names::enter(w, i, filter);
+        if !record_good(w, i, limit, marks, fresh) {
             return i;
         }
         let o = record::word(w, i, layout::ORDINAL);
         bits::set_bit(marks, o);
-        names::note(w, i, filter);
     }
     n
 }

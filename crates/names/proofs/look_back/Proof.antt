@@ -17,20 +17,18 @@ Inv-loop w i name j₀ j = (j ≤ i) × Searched (λ k. eqb (nameOf w k) (nameOf
 abbrev μ-loop : tie.MeasureT-loop
 μ-loop w i name j₀ j = i - j
 
-name-requires : tie.Need-name-requires Inv-loop μ-loop
-name-requires c κs = omega arith
-
 loop-holds : tie.Need-loop-holds Inv-loop μ-loop
 loop-holds c = (omega arith, search-start _ _)
 
-name-requires-2 : tie.Need-name-requires-2 Inv-loop μ-loop
-name-requires-2 c κs = omega arith
+name-requires : tie.Need-name-requires Inv-loop μ-loop
+name-requires c κs = omega arith
 
 taken-name : tie.Need-returns Inv-loop μ-loop
 taken-name c =
     let L = c .before .before .before in
-    let S = L .before .before .before .args in
-    sym (ap not (→any (λ k. eqb (nameOf (S .w .now) k) (nameOf (S .w .now) (S .i))) (S .i) (L .loop .j) (omega arith) (eq-eqb _ _ (sym (c .before .name2 .ensures) ∙ c .if1 .taken ∙ L .before .name .ensures))))
+    let S = L .before .before in
+    let w = S .args .w .now in
+    sym (ap not (→any (λ k. eqb (nameOf w k) (nameOf w (S .args .i))) (S .args .i) (L .loop .j) (omega arith) (eq-eqb _ _ (sym (c .before .name .ensures) ∙ c .if1 .taken ∙ S .pre .2))))
 
 add-j : tie.Need-add-j Inv-loop μ-loop
 add-j c = omega arith
@@ -41,11 +39,12 @@ loop-less c = omega arith
 loop-again : tie.Need-loop-again Inv-loop μ-loop
 loop-again c =
     let L = c .before .before .before in
-    (omega arith, search-miss _ _ _ (L .loop .inv .1) (omega arith) (ne-eqb _ _ (λ q. c .if1 .left (c .before .name2 .ensures ∙ q ∙ sym (L .before .name .ensures)))))
+    let S = L .before .before in
+    (omega arith, search-miss _ _ _ (L .loop .inv .1) (omega arith) (ne-eqb _ _ (λ q. c .if1 .left (c .before .name .ensures ∙ q ∙ sym (S .pre .2)))))
 
 new-name : tie.Need-returns-2 Inv-loop μ-loop
 new-name c =
-    let S = c .before .before .before .before .args in
+    let S = c .before .before .before .args in
     let p : ℕ → Bool = λ k. eqb (nameOf (S .w .now) k) (nameOf (S .w .now) (S .i)) in
     sym (ap not (le-ltb (first p (S .i)) (S .i) (omega (arith, search-over p (S .i) (c .before .loop .j) (c .before .loop .inv .1) (omega arith)))))
 
@@ -55,9 +54,8 @@ look-back-spec =
     (tie.spec
     Inv-loop
     μ-loop
-    name-requires
     loop-holds
-    name-requires-2
+    name-requires
     taken-name
     add-j
     loop-less

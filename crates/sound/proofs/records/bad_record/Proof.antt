@@ -10,7 +10,7 @@ use borrow.Author.Tests.{not-true, not-false}
 use Rattle.loops.proofs.Search.{Searched, search-start, search-hit, search-miss, search-over}
 use Rattle.rules.specs.IsSound.{recordGood}
 use Rattle.names.specs.Names.{namesBelow}
-use Rattle.names.proofs.Names.{namesBelow-length, namesBelow-more}
+use Rattle.names.proofs.Names.{noted-length, namesBelow-length, namesBelow-more}
 use Rattle.sound.specs.Ordinals.{ordinalsBelow}
 use Rattle.sound.proofs.Marks.{ordinalsBelow-length, ordinalsBelow-more}
 use Rattle.sound.proofs.records.bad_record.Statement.{statement}
@@ -29,40 +29,42 @@ abbrev μ-loop : tie.MeasureT-loop
 
 loop-holds : tie.Need-loop-holds Inv-loop μ-loop
 loop-holds c =
-    let R = c .before .before .before .pre .1 in
-    (omega arith, R .lower, R .named, search-start _ _)
+    let S = c .before .before .before in
+    (omega arith, S .pre .1 .lower, S .pre .3, search-start _ _)
+
+enter-requires : tie.Need-enter-requires Inv-loop μ-loop
+enter-requires c κs = search needs
 
 record-good-requires : tie.Need-record-good-requires Inv-loop μ-loop
 record-good-requires c κs =
-    let L = c .before .before .before in
+    let E = c .before .before .before in
+    let L = E .before .before .before in
     let S = L .before .before .before .before in
-    (record { whole = S .pre .0 .whole; within = omega arith; polled = S .pre .1 .polled; lower = L .loop .inv .1; named = L .loop .inv .2 }, S .pre .2)
+    (record { whole = S .pre .0 .whole; within = omega arith; polled = S .pre .1 .polled; lower = L .loop .inv .1 }, S .pre .2, E .enter .ensures .0)
 
 marks-length : tie.Need-same-length Inv-loop μ-loop
 marks-length c =
-    let L = c .before .before .before .before .before in
+    let L = c .before .before .before .before .before .before .before .before in
     let S = L .before .before .before .before in
     same-long (ordinalsBelow (S .args .w .now)) (ordinalsBelow-length (S .args .w .now)) (L .loop .inv .1) (S .pre .1 .lower)
 
 filter-length : tie.Need-same-length-2 Inv-loop μ-loop
 filter-length c =
-    let L = c .before .before .before .before .before in
+    let E = c .before .before .before .before .before in
+    let L = E .before .before .before in
     let S = L .before .before .before .before in
-    same-long (namesBelow (S .args .w .now)) (namesBelow-length (S .args .w .now)) (L .loop .inv .2) (S .pre .1 .named)
+    ap length (E .enter .ensures .1) ∙ noted-length _ _ ∙ same-long (namesBelow (S .args .w .now)) (namesBelow-length (S .args .w .now)) (L .loop .inv .2) (S .pre .3)
 
 bad : tie.Need-returns Inv-loop μ-loop
 bad c =
-    let L = c .before .before .before .before .before .loop in
-    ((sym (search-hit _ _ _ (L .inv .3) (omega arith) (ap not (sym (c .before .record-good .ensures) ∙ not-true _ (c .if1 .taken)))), L .inv .1), L .inv .2)
+    let L = c .before .before .before .before .before .before .before .before .loop in
+    (sym (search-hit _ _ _ (L .inv .3) (omega arith) (ap not (sym (c .before .record-good .ensures) ∙ not-true _ (c .if1 .taken)))), L .inv .1)
 
 word-requires : tie.Need-word-requires Inv-loop μ-loop
 word-requires c κs = omega arith
 
 set-bit-requires : tie.Need-set-bit-requires Inv-loop μ-loop
 set-bit-requires c κs = search needs
-
-note-requires : tie.Need-note-requires Inv-loop μ-loop
-note-requires c κs = omega arith
 
 add-i : tie.Need-add-i Inv-loop μ-loop
 add-i c = omega arith
@@ -72,12 +74,12 @@ loop-less c = omega arith
 
 loop-again : tie.Need-loop-again Inv-loop μ-loop
 loop-again c =
-    let N = c .before .before in
-    let M = N .before .before .before .before in
+    let M = c .before .before in
     let G = M .before .before .before .before in
-    let L = G .before .before .before .before .loop in
+    let E = G .before .before .before .before in
+    let L = E .before .before .before .loop in
     let again = search-miss _ _ _ (L .inv .3) (omega arith) (ap not (sym (G .record-good .ensures) ∙ not-false _ (M .before .before .before .if1 .left))) in
-    (omega arith, rw (ordinalsBelow-more, ← L .inv .1, ← M .before .before .word .ensures) (M .set-bit .ensures), rw (namesBelow-more, ← L .inv .2) (N .note .ensures), again)
+    (omega arith, rw (ordinalsBelow-more, ← L .inv .1, ← M .before .before .word .ensures) (M .set-bit .ensures), rw (namesBelow-more, ← L .inv .2) (E .enter .ensures .1), again)
 
 marks-length-2 : tie.Need-same-length-3 Inv-loop μ-loop
 marks-length-2 c =
@@ -89,13 +91,13 @@ filter-length-2 : tie.Need-same-length-4 Inv-loop μ-loop
 filter-length-2 c =
     let L = c .before in
     let S = L .before .before .before .before in
-    same-long (namesBelow (S .args .w .now)) (namesBelow-length (S .args .w .now)) (L .loop .inv .2) (S .pre .1 .named)
+    same-long (namesBelow (S .args .w .now)) (namesBelow-length (S .args .w .now)) (L .loop .inv .2) (S .pre .3)
 
 all-good : tie.Need-returns-2 Inv-loop μ-loop
 all-good c =
     let L = c .before .loop in
     let e : L .i ≡ c .before .before .before .before .before .args .n = omega arith in
-    ((sym (search-over _ _ _ (L .inv .3) (omega arith) ∙ e), rw (← e) (L .inv .1)), rw (← e) (L .inv .2))
+    (sym (search-over _ _ _ (L .inv .3) (omega arith) ∙ e), rw (← e) (L .inv .1))
 
 pub bad-record-spec : {M : Type 1} → statement M
 bad-record-spec =
@@ -104,13 +106,13 @@ bad-record-spec =
     Inv-loop
     μ-loop
     loop-holds
+    enter-requires
     record-good-requires
     marks-length
     filter-length
     bad
     word-requires
     set-bit-requires
-    note-requires
     add-i
     loop-less
     loop-again

@@ -1,4 +1,4 @@
--- The code has the rule's tests in the rule's order, with the filter in place of a look back at the lower names and the marks at the lower ordinals.
+-- The code has the rule's tests in the rule's order, with what it was told in place of a look back at the lower names and the marks at the lower ordinals.
 use Rattle.sound.proofs.Marks.{bookingGood-marked}
 use borrow.Author.Needs.{needs}
 use Rattle.sound.proofs.records.booking_good.Statement.{statement}
@@ -9,9 +9,6 @@ word-requires c κs = search needs
 
 word-requires-2 : tie.Need-word-requires-2
 word-requires-2 c κs = search needs
-
-is-new-requires : tie.Need-is-new-requires
-is-new-requires c κs = search needs
 
 parents-good-requires : tie.Need-parents-good-requires
 parents-good-requires c κs = search needs
@@ -24,9 +21,9 @@ is-set-requires c κs = search needs
 
 returns : tie.Need-returns
 returns c =
-    let N = c .before .before .before in
-    let S = N .before .before .before .before .before .before in
-    rw (N .is-new .ensures, N .before .before .word .ensures, c .before .before .parents-good .ensures, c .before .state-good .ensures, c .is-set .ensures, N .before .word2 .ensures, S .pre .lower) (bookingGood-marked (S .args .w .now) (S .args .i) (S .pre .polled))
+    let W = c .before .before .before in
+    let S = W .before .before .before .before in
+    rw (S .pre .1, W .before .word .ensures, c .before .before .parents-good .ensures, c .before .state-good .ensures, c .is-set .ensures, W .word2 .ensures, S .pre .0 .lower) (bookingGood-marked (S .args .w .now) (S .args .i) (S .pre .0 .polled))
 
 pub booking-good-spec : {M : Type 1} → statement M
 booking-good-spec =
@@ -34,7 +31,6 @@ booking-good-spec =
     (tie.spec
     word-requires
     word-requires-2
-    is-new-requires
     parents-good-requires
     state-good-requires
     is-set-requires

@@ -12,7 +12,7 @@ genesis-good-requires c κs = search needs
 
 genesis : tie.Need-returns
 genesis c =
-    let S = c .before .before .before .before .before .before in
+    let S = c .before .before .before .before .before in
     rw (eq-eqb _ 0 (c .before .if1 .taken), c .genesis-good .ensures, c .before .before .word .ensures, S .pre .1)
 
 booking-good-requires : tie.Need-booking-good-requires
@@ -20,7 +20,7 @@ booking-good-requires c κs = search needs
 
 booking : tie.Need-returns-2
 booking c =
-    let S = c .before .before .before .before .before .before in
+    let S = c .before .before .before .before .before in
     rw (ne-eqb _ 0 (c .before .if1 .left), c .booking-good .ensures, c .before .before .word .ensures, S .pre .1)
 
 pub record-good-spec : {M : Type 1} → statement M

@@ -28,7 +28,7 @@ bad-record-requires : tie.Need-bad-record-requires
 bad-record-requires c κs =
     let S = c .before .before .before .before .before in
     let w = S .args .w .now in
-    (S .pre .0, record { whole = S .pre .0 .whole; within = omega arith; polled = S .pre .1; lower = sym (ordinalsBelow-zero w); named = sym (namesBelow-zero w) }, S .pre .2)
+    (S .pre .0, record { whole = S .pre .0 .whole; within = omega arith; polled = S .pre .1; lower = sym (ordinalsBelow-zero w) }, S .pre .2, sym (namesBelow-zero w))
 
 slice-aggregate-all-marked : tie.Need-slice-aggregate-all-marked
 slice-aggregate-all-marked c = search needs
@@ -47,9 +47,9 @@ none-bad c =
     let A = B .before .before .before in
     let S = A .before .before .before in
     let w = S .args .w .now in
-    let good : all (recordGood w) (bookings w) ≡ true = rw (← S .pre .0 .counts) (eq-eqb _ _ (sym (B .bad-record .ensures .0 .0) ∙ I .if1 .taken)) in
+    let good : all (recordGood w) (bookings w) ≡ true = rw (← S .pre .0 .counts) (eq-eqb _ _ (sym (B .bad-record .ensures .0) ∙ I .if1 .taken)) in
     let held : c .before .all-marked .result ≡ ordinalsHeld w =
-    c .before .all-marked .ensures ∙ rw (A .wide .ensures .0, A .before .head .ensures, B .bad-record .ensures .0 .1, I .if1 .taken, S .pre .0 .counts) (ordinalsHeld-marked w (S .pre .1)) in
+    c .before .all-marked .ensures ∙ rw (A .wide .ensures .0, A .before .head .ensures, B .bad-record .ensures .1, I .if1 .taken, S .pre .0 .counts) (ordinalsHeld-marked w (S .pre .1)) in
     rw (good, held, c .stray-record .ensures)
 
 some-bad : tie.Need-returns-2
@@ -57,7 +57,7 @@ unfolding recordsGood
 some-bad c =
     let B = c .before .before .before in
     let S = B .before .before .before .before .before .before in
-    rw (← S .pre .0 .counts, ne-eqb _ _ (λ q. c .if1 .left (B .bad-record .ensures .0 .0 ∙ q)))
+    rw (← S .pre .0 .counts, ne-eqb _ _ (λ q. c .if1 .left (B .bad-record .ensures .0 ∙ q)))
 
 pub records-good-spec : {M : Type 1} → statement M
 records-good-spec =

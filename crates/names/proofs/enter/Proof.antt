@@ -1,0 +1,63 @@
+-- Both bits of the name are set in the order of the definition. The filter asked is that of the lower names; a name that is not noted in it is new.
+use mathlib.Core.Path.{sym}
+use borrow.Author.Needs.{needs}
+use Rattle.names.proofs.Names.{isNoted-new}
+use Rattle.names.proofs.enter.Statement.{statement}
+use Rattle.names.proofs.enter.Tie as tie
+
+name-requires : tie.Need-name-requires
+name-requires c κs = search needs
+
+first-bit-requires : tie.Need-first-bit-requires
+first-bit-requires c κs = search needs
+
+second-bit-requires : tie.Need-second-bit-requires
+second-bit-requires c κs = search needs
+
+is-set-requires : tie.Need-is-set-requires
+is-set-requires c κs = search needs
+
+is-set-requires-2 : tie.Need-is-set-requires-2
+is-set-requires-2 c κs = search needs
+
+set-bit-requires : tie.Need-set-bit-requires
+set-bit-requires c κs = search needs
+
+set-bit-requires-2 : tie.Need-set-bit-requires-2
+set-bit-requires-2 c κs = search needs
+
+look-back-requires : tie.Need-look-back-requires
+look-back-requires c κs = search needs
+
+same-length : tie.Need-same-length
+same-length c = search needs
+
+looked-back : tie.Need-returns
+looked-back c = (c .look-back .ensures, cc)
+
+same-length-2 : tie.Need-same-length-2
+same-length-2 c = search needs
+
+not-noted : tie.Need-returns-2
+not-noted c =
+    let B = c .before .before .before .before .before .before .before .before .before in
+    let F = B .before .before .before .before .before in
+    let S = F .before .before .before .before in
+    (sym (isNoted-new (S .args .w .now) (S .args .i) (rw (← S .pre .2, ← F .before .name .ensures, ← F .first-bit .ensures, ← B .before .before .before .before .second-bit .ensures, ← B .before .before .is-set .ensures, ← B .is-set2 .ensures) (c .if1 .left))), cc)
+
+pub enter-spec : {M : Type 1} → statement M
+enter-spec =
+    tie.close
+    (tie.spec
+    name-requires
+    first-bit-requires
+    second-bit-requires
+    is-set-requires
+    is-set-requires-2
+    set-bit-requires
+    set-bit-requires-2
+    look-back-requires
+    same-length
+    looked-back
+    same-length-2
+    not-noted)
