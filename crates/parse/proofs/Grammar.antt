@@ -70,18 +70,18 @@ pub polled-bad : {said : Said} (votes : List ℕ) → said ≡ alone Bad → Pol
 polled-bad votes e = record { answer = sym (ap (λ s. s .command) e); after = sym (ap (λ s. sets votes 0 (s .votes)) e) }
 
 -- a list that was read is the command's, whether or not it made a good line
-pub booked-listed : {said : Said} {parents parents′ : List ℕ} {many : Many} {r : Command} (name slot : ℕ) (ws : List (List ℕ))
-    → said ≡ bookWords name slot ws → Listed nameOf parentsMost ws parents many parents′ → r ≡ bookWith name slot many → Booked said parents r parents′
-booked-listed {said} {parents} name slot ws e l q =
+pub booked-listed : {said : Said} {parents parents′ : List ℕ} {many : Many} (name slot : ℕ) (ws : List (List ℕ)) (m : Many)
+    → said ≡ bookWords name slot ws → Listed nameOf parentsMost ws parents many parents′ → many ≡ m → Booked said parents (bookWith name slot m) parents′
+booked-listed {said} {parents} name slot ws m e l q =
     record {
-      answer = q ∙ ap (bookWith name slot) (l .many) ∙ sym (ap (λ s. s .command) e);
+      answer = ap (bookWith name slot) (sym q ∙ l .many) ∙ sym (ap (λ s. s .command) e);
       after = l .after ∙ sym (ap (λ s. sets parents 0 (s .parents)) e);
     }
 
-pub polled-listed : {said : Said} {votes votes′ : List ℕ} {many : Many} {r : Command} (name : ℕ) (ws : List (List ℕ))
-    → said ≡ pollWords name ws → Listed voteOf votesMost ws votes many votes′ → r ≡ pollWith name many → Polled said votes r votes′
-polled-listed {said} {votes} name ws e l q =
+pub polled-listed : {said : Said} {votes votes′ : List ℕ} {many : Many} (name : ℕ) (ws : List (List ℕ)) (m : Many)
+    → said ≡ pollWords name ws → Listed voteOf votesMost ws votes many votes′ → many ≡ m → Polled said votes (pollWith name m) votes′
+polled-listed {said} {votes} name ws m e l q =
     record {
-      answer = q ∙ ap (pollWith name) (l .many) ∙ sym (ap (λ s. s .command) e);
+      answer = ap (pollWith name) (sym q ∙ l .many) ∙ sym (ap (λ s. s .command) e);
       after = l .after ∙ sym (ap (λ s. sets votes 0 (s .votes)) e);
     }

@@ -17,11 +17,9 @@ ghost use Rattle.parse.specs.Line.{
   Booked,
   Polled,
   bookSays,
-  bookWith,
   nothing,
   openSays,
   pollSays,
-  pollWith,
   readSays,
   settingOf,
 };
@@ -73,16 +71,6 @@ pub(crate) fn read_reading(line: &[u8], at: usize, reading: Reading) -> Command
     Command::Read { reading, name }
 }
 
-// The command, once the parents are counted.
-fn book_with(name: u64, slot: u16, many: Many) -> Command
-    ensures { λ r. ⌜ r ≡ bookWith name slot many ⌝ }
-{
-    match many {
-        Many::Count(count) => Command::Book { name, slot, count },
-        Many::Refused => Command::Bad,
-    }
-}
-
 // A name, a slot and the parents.
 pub(crate) fn read_book(line: &[u8], at: usize, parents: &mut [u64]) -> Command
     requires { ⌜ length (now parents) ≡ parentsMost ⌝ }
@@ -94,21 +82,11 @@ pub(crate) fn read_book(line: &[u8], at: usize, parents: &mut [u64]) -> Command
     let Step::Next(slot, after_slot) = next_number(line, after_name, SHORT_MOST) else {
         return Command::Bad;
     };
-    book_with(
-        name,
-        slot as u16,
-        read_numbers(line, after_slot, NAME_MOST, parents),
-    )
-}
-
-// The command, once the votes are counted.
-fn poll_with(name: u64, many: Many) -> Command
-    ensures { λ r. ⌜ r ≡ pollWith name many ⌝ }
-{
-    match many {
-        Many::Count(count) => Command::Poll { name, count },
-        Many::Refused => Command::Bad,
-    }
+    let slot = slot as u16;
+    let Many::Count(count) = read_numbers(line, after_slot, NAME_MOST, parents) else {
+        return Command::Bad;
+    };
+    Command::Book { name, slot, count }
 }
 
 // A name and the votes.
@@ -119,7 +97,10 @@ pub(crate) fn read_poll(line: &[u8], at: usize, votes: &mut [u8]) -> Command
     let Step::Next(name, end) = next_number(line, at, NAME_MOST) else {
         return Command::Bad;
     };
-    poll_with(name, read_votes(line, end, votes))
+    let Many::Count(count) = read_votes(line, end, votes) else {
+        return Command::Bad;
+    };
+    Command::Poll { name, count }
 }
 
 // Nothing.

@@ -1,10 +1,11 @@
 -- A name, a slot and the parents after them; the name and the slot are judged before a parent is stored.
-use mathlib.Core.Path.{sym, _∙_}
+use mathlib.Core.Path.{_≡_, sym, _∙_}
 use native.Mathlib.Omega.{arith}
 use Rattle.parse.specs.declared.command.Command.the-variants.{Bad}
+use Rattle.scan.specs.declared.many.Many.the-variants.{Count, Refused}
 use Rattle.scan.specs.Words.{wordsAfter}
 use Rattle.number.specs.Numbers.{shortMost, nameOf, shortOf}
-use Rattle.parse.specs.Line.{alone, bookSays}
+use Rattle.parse.specs.Line.{alone, bookWords, bookSays}
 use Rattle.number.proofs.Digits.{number-le}
 use Rattle.parse.proofs.Grammar.{stepped, number-next, number-stop, booked-bad, booked-listed}
 use borrow.Author.Needs.{needs}
@@ -48,40 +49,54 @@ no-slot c =
     (number-next nameOf (S .line .now) (S .at) (alone Bad) _ _ _ (sym (N .next-number .ensures) ∙ K .name .given .1)
     ∙ number-stop shortOf (S .line .now) _ (alone Bad) _ (sym (M .next-number2 .ensures) ∙ c .enum-told2 .given .1))
 
-cast-book-with : tie.Need-cast-book-with
-cast-book-with c =
-    let K = c .before in
-    omega (arith, number-le shortMost _ _ (stepped shortOf _ _ _ _ (sym (K .before .before .next-number2 .ensures) ∙ K .slot .given .1) .value))
+cast-slot : tie.Need-cast-slot
+cast-slot c =
+    let T = c .before in
+    omega (arith, number-le shortMost _ _ (stepped shortOf _ _ _ _ (sym (T .before .before .next-number2 .ensures) ∙ T .slot .given .1) .value))
 
 read-numbers-requires : tie.Need-read-numbers-requires
 read-numbers-requires c κs =
-    let K = c .before .before in
-    (stepped shortOf _ _ _ _ (sym (K .before .before .next-number2 .ensures) ∙ K .slot .given .1) .within, search needs)
+    let T = c .before .before in
+    (stepped shortOf _ _ _ _ (sym (T .before .before .next-number2 .ensures) ∙ T .slot .given .1) .within, search needs)
 
-book-with-requires : tie.Need-book-with-requires
-book-with-requires c κs = search needs
+enum-known-count : tie.Need-enum-known-count
+enum-known-count c = search needs
+
+enum-told-3 : tie.Need-enum-told-3
+enum-told-3 c = search needs
+
+-- once the parents are read
+module _ (R : tie.After-read-numbers) where
+  abbrev T : tie.After-slot
+  T = R .before .before .before
+
+  abbrev K : tie.After-name
+  K = T .before .before .before .before
+
+  abbrev S : tie.Start
+  S = K .before .before .before .before .before
+
+  says : bookSays (wordsAfter (S .args .line .now) (S .args .at)) ≡ bookWords (K .name .given .0 .0) (T .slot .given .0 .0) (wordsAfter (S .args .line .now) (T .slot .given .0 .1 .0))
+  unfolding bookSays
+  says =
+      number-next nameOf _ _ (alone Bad) _ _ _ (sym (K .before .before .next-number .ensures) ∙ K .name .given .1)
+      ∙ number-next shortOf _ _ (alone Bad) _ _ _ (sym (T .before .before .next-number2 .ensures) ∙ T .slot .given .1)
 
 same-length : tie.Need-same-length
 same-length c = search needs
 
-listed : tie.Need-returns-3
-unfolding bookSays
+no-parents : tie.Need-returns-3
+no-parents c =
+    let R = c .before .before .before .before in
+    booked-listed _ _ _ Refused (says R) (rw (S R .pre) at (R .read-numbers .ensures)) (c .enum-told3 .given .1)
+
+same-length-2 : tie.Need-same-length-2
+same-length-2 c = search needs
+
+listed : tie.Need-returns-4
 listed c =
-    let R = c .before .before .before in
-    let T = R .before .before .before in
-    let M = T .before .before in
-    let K = M .before .before in
-    let N = K .before .before in
-    let S = N .before .before .before in
-    let l = S .args .line .now in
-    booked-listed
-    (K .name .given .0 .0)
-    (T .slot .given .0 .0)
-    (wordsAfter l _)
-    (number-next nameOf l (S .args .at) (alone Bad) _ _ _ (sym (N .next-number .ensures) ∙ K .name .given .1)
-    ∙ number-next shortOf l _ (alone Bad) _ _ _ (sym (M .next-number2 .ensures) ∙ T .slot .given .1))
-    (rw (S .pre) at (R .read-numbers .ensures))
-    (c .book-with .ensures)
+    let R = c .before .before .before .before .before in
+    booked-listed _ _ _ (Count _) (says R) (rw (S R .pre) at (R .read-numbers .ensures)) (c .before .count .given .1)
 
 pub read-book-spec : {M : Type 1} → statement M
 read-book-spec =
@@ -95,8 +110,11 @@ read-book-spec =
     enum-known-slot
     enum-told-2
     no-slot
-    cast-book-with
+    cast-slot
     read-numbers-requires
-    book-with-requires
+    enum-known-count
+    enum-told-3
     same-length
+    no-parents
+    same-length-2
     listed)

@@ -1,9 +1,10 @@
 -- A name and the votes after it; the name is judged before a vote is stored.
-use mathlib.Core.Path.{sym, _∙_}
+use mathlib.Core.Path.{_≡_, sym, _∙_}
 use Rattle.parse.specs.declared.command.Command.the-variants.{Bad}
+use Rattle.scan.specs.declared.many.Many.the-variants.{Count, Refused}
 use Rattle.scan.specs.Words.{wordsAfter}
 use Rattle.number.specs.Numbers.{nameOf}
-use Rattle.parse.specs.Line.{alone, pollSays}
+use Rattle.parse.specs.Line.{alone, pollWords, pollSays}
 use Rattle.parse.proofs.Grammar.{stepped, number-next, number-stop, polled-bad, polled-listed}
 use borrow.Author.Needs.{needs}
 use Rattle.parse.proofs.line.read_poll.Statement.{statement}
@@ -30,26 +31,39 @@ read-votes-requires c κs =
     let K = c .before .before in
     stepped nameOf _ _ _ _ (sym (K .before .before .next-number .ensures) ∙ K .name .given .1) .within
 
-poll-with-requires : tie.Need-poll-with-requires
-poll-with-requires c κs = search needs
+enum-known-count : tie.Need-enum-known-count
+enum-known-count c = search needs
+
+enum-told-2 : tie.Need-enum-told-2
+enum-told-2 c = search needs
+
+-- once the votes are read
+module _ (R : tie.After-read-votes) where
+  abbrev K : tie.After-name
+  K = R .before .before .before
+
+  abbrev S : tie.Start
+  S = K .before .before .before .before .before
+
+  says : pollSays (wordsAfter (S .args .line .now) (S .args .at)) ≡ pollWords (K .name .given .0 .0) (wordsAfter (S .args .line .now) (K .name .given .0 .1 .0))
+  unfolding pollSays
+  says = number-next nameOf _ _ (alone Bad) _ _ _ (sym (K .before .before .next-number .ensures) ∙ K .name .given .1)
 
 same-length : tie.Need-same-length
 same-length c = search needs
 
-listed : tie.Need-returns-2
-unfolding pollSays
+no-votes : tie.Need-returns-2
+no-votes c =
+    let R = c .before .before .before .before in
+    polled-listed _ _ Refused (says R) (rw (S R .pre) at (R .read-votes .ensures)) (c .enum-told2 .given .1)
+
+same-length-2 : tie.Need-same-length-2
+same-length-2 c = search needs
+
+listed : tie.Need-returns-3
 listed c =
-    let R = c .before .before .before in
-    let K = R .before .before .before in
-    let N = K .before .before in
-    let S = N .before .before .before in
-    let l = S .args .line .now in
-    polled-listed
-    (K .name .given .0 .0)
-    (wordsAfter l _)
-    (number-next nameOf l (S .args .at) (alone Bad) _ _ _ (sym (N .next-number .ensures) ∙ K .name .given .1))
-    (rw (S .pre) at (R .read-votes .ensures))
-    (c .poll-with .ensures)
+    let R = c .before .before .before .before .before in
+    polled-listed _ _ (Count _) (says R) (rw (S R .pre) at (R .read-votes .ensures)) (c .before .count .given .1)
 
 pub read-poll-spec : {M : Type 1} → statement M
 read-poll-spec =
@@ -60,6 +74,9 @@ read-poll-spec =
     enum-told
     no-name
     read-votes-requires
-    poll-with-requires
+    enum-known-count
+    enum-told-2
     same-length
+    no-votes
+    same-length-2
     listed)
