@@ -9,17 +9,21 @@ ghost use Rattle.names.specs.Names.{firstBit, secondBit, noted, namesBel
 // How many words a filter has.
 pub const FILTER_WORDS: usize = 124;
 
-// The two bits of a name.
+// The two bits of a name: its remainders by two primes.
+const FIRST_PRIME: u64 = 7879;
+
+const SECOND_PRIME: u64 = 7741;
+
 fn first_bit(name: u64) -> usize
     ensures { λ r. ⌜ r ≡ firstBit name ⌝ }
 {
-    (name % 7879) as usize
+    (name % FIRST_PRIME) as usize
 }
 
 fn second_bit(name: u64) -> usize
     ensures { λ r. ⌜ r ≡ secondBit name ⌝ }
 {
-    (name % 7741) as usize
+    (name % SECOND_PRIME) as usize
 }
 
 // No lower record has the name of record i: a look at each.
