@@ -210,14 +210,25 @@ impl<'a> Contest<'a> {
         Ok((our_answer, theirs))
     }
 
-    /// The laws of a history, or those of any sound ledger, as our face
-    /// shows them.
+    /// Who is accepted, and the laws of a history, or those of any sound
+    /// ledger, as our face shows them.
     fn check_laws(&mut self, tally: &mut Tally) -> Result<(), String> {
         let mut guarded = Guarded::new(&self.ws);
+        let mut theirs = self.ws.clone();
+        let mut told_otherwise = None;
         let picture = Picture::of_words(&self.ws, |name| {
             let call = Call::Read(Reading::Accepted, name);
-            self.ours.call(guarded.lend(), &call) == (0, 1)
+            let answer = self.ours.call(guarded.lend(), &call);
+            if answer != self.theirs.call(&mut theirs, &call) {
+                told_otherwise = Some(name);
+            }
+            answer == (0, 1)
         });
+        if let Some(name) = told_otherwise {
+            return Err(format!(
+                "another answer to accepted {name}, as the run ends"
+            ));
+        }
         match &self.history {
             Some(history) => history.check(&picture),
             None => check_accepted_once(&picture.rows),

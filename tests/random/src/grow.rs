@@ -66,7 +66,12 @@ impl Style {
     /// Small bounds, and chains whose counters pass them.
     pub fn accepting(prng: &mut Prng) -> Style {
         let beta1 = prng.word(1, 2);
-        let beta2 = prng.word(beta1, 4);
+        // out of reach every other time: then no booking with a rival is accepted, and nothing that rests on one
+        let beta2 = if prng.chance(50) {
+            prng.word(beta1, 4)
+        } else {
+            prng.word(200, 510)
+        };
         Style {
             setting: setting(1, 1, beta1, beta2),
             shape: Shape::Chain,

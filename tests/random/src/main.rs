@@ -141,7 +141,7 @@ impl Order {
             judge(format!("{plant:?}"), found);
         }
         for planted in &MISREAD {
-            let (_, difference) = consoles::compare(planted, consoles::ENOUGH, self.seed);
+            let (_, difference) = consoles::compare(planted, 4 * consoles::ENOUGH, self.seed);
             let found = difference.map(|found| format!("by input {}", found.run));
             judge(planted.name.to_string(), found);
         }

@@ -1,0 +1,2 @@
+-- Cases of the definitions in specs/, computed.
+pub mod Cases
