@@ -18,7 +18,7 @@ use Rattle.rules.specs.Ancestry.{Parent, isMember, mark, unmarked}
 use Rattle.rules.specs.Readings.{parentsAccepted, firstArm, secondArm, acceptOne, acceptedBelow, acceptedOf}
 use Rattle.rules.specs.Sound.{Sound}
 use Rattle.rules.specs.Told.{FirstArm, SecondArm}
-use Rattle.laws.proofs.Bools.{and-both, or-right, or-else, or-either}
+use Rattle.loops.proofs.Bools.{and-both, or-right, or-else, or-either}
 use Rattle.laws.proofs.Ancestry.{length-unmarked, unmarked-zero, Parent-lt}
 
 -- ---- what one turn does to the marks

@@ -15,7 +15,7 @@ use Rattle.loops.proofs.Search.{none→, →none}
 use Rattle.rules.specs.IsSound.{nameNew, parentGood, parentsGood, ordinalNew, stateGood, bookingGood}
 use Rattle.rules.specs.Sound.{Booking}
 use Rattle.rules.specs.Layout.{slots, mostParents, none, polls, slotOf, parentOf, stateOf, ordinalOf}
-use Rattle.laws.proofs.Bools.{row-at, row-by, and-left, and-right, and-both, or-right, or-else, cond-agree, agree-cond}
+use Rattle.loops.proofs.Bools.{row-at, row-by, and-left, and-right, and-both, or-right, or-else, cond-agree, agree-cond}
 
 -- ---- a value that no lower number has
 

@@ -12,7 +12,7 @@ use borrow.Author.Tests.{leb-true, ltb-true, le-leb, lt-ltb, eqb-true, eq-eqb, n
 use Rattle.rules.specs.IsSound.{chits, bookingsOf, isBookingOf, entryEmpty, entryHeld, slotGood}
 use Rattle.rules.specs.Sound.{BookingOf, EmptyEntry, HeldEntry}
 use Rattle.rules.specs.Layout.{none, bookings, slotOf, preferredIn, lastIn, counterIn, heldIn}
-use Rattle.laws.proofs.Bools.{row-at, row-by}
+use Rattle.loops.proofs.Bools.{row-at, row-by}
 
 -- ---- a booking of the slot
 

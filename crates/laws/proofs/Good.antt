@@ -8,7 +8,7 @@ use lib.Dec.{ltb, leb}
 use borrow.Author.Tests.{leb-true, ltb-true, le-leb, lt-ltb}
 use Rattle.terms.specs.declared.setting.Setting.{Setting}
 use Rattle.terms.specs.Setting.{Good, isGood}
-use Rattle.laws.proofs.Bools.{row-at, row-by}
+use Rattle.loops.proofs.Bools.{row-at, row-by}
 
 abbrev tests : Setting → List Bool
 tests s =

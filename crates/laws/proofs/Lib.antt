@@ -1,6 +1,5 @@
 -- Laws of the definitions in rules/specs. They assume nothing.
 pub mod Words
-pub mod Bools
 pub mod Good
 pub mod Lookup
 pub mod Bookings

@@ -18,7 +18,7 @@ use Rattle.rules.specs.Ancestry.{Reaches, isMember, ancestry}
 use Rattle.rules.specs.Sound.{Sound, BookingOf}
 use Rattle.rules.specs.Readings.{isPreferred, queryOf, acceptedOf, isRival, rivalConfidence, rivalsMost, leadOf, sizeOf}
 use Rattle.rules.specs.Told.{Rival, MostOfRivals}
-use Rattle.laws.proofs.Bools.{or-right, or-else}
+use Rattle.loops.proofs.Bools.{or-right, or-else}
 use Rattle.laws.proofs.Ancestry.{Reaches-le, marks→Reaches, Reaches→marks, member-self}
 
 -- 511: what a confidence, a counter and a lead can reach

@@ -46,7 +46,7 @@ use Rattle.rules.specs.Layout.{
   confidenceOf,
   ordinalOf,
 }
-use Rattle.laws.proofs.Bools.{row-at, row-by, and-left, and-right, and-both, or-right, or-else}
+use Rattle.loops.proofs.Bools.{row-at, row-by, and-left, and-right, and-both, or-right, or-else}
 use Rattle.laws.proofs.Good.{isGood→Good, Good→isGood}
 use Rattle.laws.proofs.Bookings.{
   new→differs,

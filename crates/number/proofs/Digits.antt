@@ -1,6 +1,6 @@
 -- Laws of a word read digit by digit: a value that is past the limit stays past it, so reading may stop there.
 use mathlib.Core.Path.{_≡_, refl, sym, ap, _∙_}
-use mathlib.Core.Bool.{Bool, true, false, not, _&&_, cond, and-false, false≢true}
+use mathlib.Core.Bool.{Bool, true, false, not, _&&_, cond, and-false}
 use mathlib.Core.List.{List}
 use mathlib.Core.Logic.{_⊎_, ⊎-elim, inl, inr}
 use Prim.Native.Nat.{ℕ, zero, suc, _+_, _*_, _-_, _%_, _<_, _≤_}
@@ -10,6 +10,7 @@ use lib.ListN.{length, getD, take, drop, List·getD-eq-default}
 use lib.Dec.{eqb, leb}
 use borrow.Author.Tests.{eq-eqb, le-leb, lt-leb, leb-true, leb-false}
 use Rattle.loops.specs.Search.{all}
+use Rattle.loops.proofs.Bools.{and-right}
 use Rattle.loops.proofs.Search.{Searched, search-start, search-miss, search-over, all-fails}
 use Rattle.loops.proofs.Turns.{upTo-zero, upTo-more}
 use Rattle.text.specs.Bytes.{digit, minus}
@@ -126,10 +127,6 @@ unfolding voteOf
 vote-minus word n e q = rw (eq-eqb (getD word 0 0) minus e) (ap negatedOf (q ∙ ap (numberOf minusMost) (rest-lent 1 word)))
 
 -- ---- bounds
-
-and-right : (x y : Bool) → x && y ≡ true → y ≡ true
-and-right true y e = e
-and-right false y e = absurd (false≢true e)
 
 pub number-le : (most : ℕ) (word : List ℕ) (v : ℕ) → numberOf most word ≡ Value v → v ≤ most
 unfolding numberOf isNumber

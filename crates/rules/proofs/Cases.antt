@@ -1,6 +1,6 @@
 -- Document 01, "Cases on each side": P1 to P12, one table under one statement, computed from the definitions on whole workspaces.
 -- Every step is a call with its refusals, as a user would make it, and every reading an answer: a refusal is not taken for a 0.
-use mathlib.Core.Path.{_≡_, refl, sym, ap, ap₂, fun-ext, _∙_}
+use mathlib.Core.Path.{_≡_, sym, ap, ap₂, fun-ext, _∙_}
 use mathlib.Core.Bool.{Bool, true, false, _&&_}
 use mathlib.Core.List.{List, [], _∷_, _++_}
 use Prim.Native.Nat.{ℕ}
@@ -52,7 +52,7 @@ use Rattle.rules.specs.Book.{lookUp, hasUnknown, hasTwice, entered, book
 use Rattle.rules.specs.Poll.{polled, raiseOne, prefer, follow, settleOne}
 use Rattle.rules.specs.Readings.{queryOf, acceptOne, acceptedOf, rivalsMost, leadOf, sizeOf}
 use Rattle.rules.specs.Calls.{openCall, bookBy, pollBy, readBy, bookCall, pollCall, queryCall, acceptedCall, leadCall, confidenceCall, sizeCall}
-use Rattle.rules.proofs.Same.{sameTable, same-table}
+use Rattle.rules.proofs.Same.{Passes, passes, sameTable, same-table}
 use Rattle.rules.proofs.Walk.{isSoundWalked, walked-is}
 
 abbrev setting : ℕ → ℕ → ℕ → ℕ → Setting
@@ -222,22 +222,22 @@ made sound =
       members = readBy sound Size;
     }
 
-diamond-walked : sameTable (diamond (made isSoundWalked)) diamondSays ≡ true
+diamond-walked : Passes (sameTable (diamond (made isSoundWalked)) diamondSays)
 unfolding diamond diamondSays same isSoundWalked headerGood genesisGood bookingGood parentsGood stateGood chits bookingsOf opened openWord lookUp hasUnknown hasTwice entered booked polled raiseOne prefer follow settleOne queryOf acceptOne acceptedOf rivalsMost leadOf sizeOf ancestry sweep spread voteOf openCall upTo firstFrom total greatest from walkFrom
-diamond-walked = refl
+diamond-walked = tt
 
-alone-walked : sameTable (alone (made isSoundWalked)) aloneSays ≡ true
+alone-walked : Passes (sameTable (alone (made isSoundWalked)) aloneSays)
 unfolding alone aloneSays same isSoundWalked headerGood genesisGood bookingGood parentsGood stateGood chits bookingsOf opened openWord lookUp hasUnknown hasTwice entered booked polled raiseOne prefer follow settleOne queryOf acceptOne acceptedOf rivalsMost leadOf sizeOf ancestry sweep spread voteOf openCall upTo firstFrom total greatest from walkFrom
-alone-walked = refl
+alone-walked = tt
 
-rivals-walked : sameTable (rivals (made isSoundWalked)) rivalsSay ≡ true
+rivals-walked : Passes (sameTable (rivals (made isSoundWalked)) rivalsSay)
 unfolding rivals rivalsSay same isSoundWalked headerGood genesisGood bookingGood parentsGood stateGood chits bookingsOf opened openWord lookUp hasUnknown hasTwice entered booked polled raiseOne prefer follow settleOne queryOf acceptOne acceptedOf rivalsMost leadOf sizeOf ancestry sweep spread voteOf openCall upTo firstFrom total greatest from walkFrom
-rivals-walked = refl
+rivals-walked = tt
 
 -- one ledger's rows, by the calls of the law
-rows-by : (rows : Made → List (List Answer)) (said : List (List Answer)) → sameTable (rows (made isSoundWalked)) said ≡ true → rows theCalls ≡ said
+rows-by : (rows : Made → List (List Answer)) (said : List (List Answer)) → Passes (sameTable (rows (made isSoundWalked)) said) → rows theCalls ≡ said
 unfolding theCalls bookCall pollCall queryCall acceptedCall leadCall confidenceCall sizeCall
-rows-by rows said walked = ap (λ sound. rows (made sound)) (fun-ext (λ w. sym (walked-is w))) ∙ same-table (rows (made isSoundWalked)) said walked
+rows-by rows said walked = ap (λ sound. rows (made sound)) (fun-ext (λ w. sym (walked-is w))) ∙ same-table (rows (made isSoundWalked)) said (passes _ walked)
 
 -- the statement: the cases are as document 01 says
 pub cases : table theCalls ≡ says

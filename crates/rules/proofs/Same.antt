@@ -6,6 +6,7 @@ use Prim.Native.Nat.{ℕ}
 use lib.IntN.{ℤ, pos, negsuc}
 use lib.Dec.{eqb}
 use store.Seg.{eqb→≡}
+use Rattle.loops.proofs.Bools.{and-left, and-right}
 use Rattle.terms.specs.declared.answer.Refusal.the-variants.{
   WrongLength,
   NotSound,
@@ -24,6 +25,15 @@ use Rattle.terms.specs.declared.answer.Refusal.the-variants.{
 use Rattle.terms.specs.declared.answer.Answer.{Answer}
 use Rattle.terms.specs.declared.answer.Answer.the-variants.{Taken, Refused}
 use Rattle.terms.specs.Answers.{number, value}
+
+-- what a test that passes has, and one that fails has not: checked without writing the test out
+abbrev pub Passes : Bool → Type 0
+Passes true = Unit
+Passes false = ⊥
+
+pub passes : (b : Bool) → Passes b → b ≡ true
+passes true p = refl
+passes false p = absurd p
 
 -- number and value settle an answer
 abbrev answerOf : ℕ → ℤ → Answer
@@ -70,14 +80,6 @@ same-value (pos m) (pos n) e = rw (eqb→≡ m n e)
 same-value (pos m) (negsuc n) e = absurd (true≢false (sym e))
 same-value (negsuc m) (pos n) e = absurd (true≢false (sym e))
 same-value (negsuc m) (negsuc n) e = rw (eqb→≡ m n e)
-
-and-left : (a b : Bool) → (a && b) ≡ true → a ≡ true
-and-left true b e = refl
-and-left false b e = e
-
-and-right : (a b : Bool) → (a && b) ≡ true → b ≡ true
-and-right true b e = e
-and-right false b e = absurd (true≢false (sym e))
 
 abbrev sameAnswer : Answer → Answer → Bool
 sameAnswer a b = eqb (number a) (number b) && sameValue (value a) (value b)
