@@ -16,7 +16,7 @@ entry-of-requires-2 : tie.Need-entry-of-requires-2
 entry-of-requires-2 c κs = search needs
 
 returns : tie.Need-returns
-returns c = cc
+returns c = rw (c .before .before .before .parents-accepted .ensures, c .before .before .entry-of .ensures, c .before .head .ensures, c .entry-of2 .ensures)
 
 pub first-arm-spec : {M : Type 1} → statement M
 first-arm-spec =

@@ -10,7 +10,7 @@ second-arm-requires : tie.Need-second-arm-requires
 second-arm-requires c κs = search needs
 
 returns : tie.Need-returns
-returns c = cc
+returns c = rw (c .second-arm .ensures, c .before .first-arm .ensures)
 
 pub is-accepted-spec : {M : Type 1} → statement M
 is-accepted-spec = tie.close (tie.spec first-arm-requires second-arm-requires returns)

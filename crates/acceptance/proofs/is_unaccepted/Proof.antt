@@ -13,7 +13,7 @@ is-member-requires : tie.Need-is-member-requires
 is-member-requires c κs = search needs
 
 returns : tie.Need-returns
-returns c = cc
+returns c = rw (c .is-member .ensures, c .before .wide .ensures .0, c .before .before .parent .ensures)
 
 pub is-unaccepted-spec : {M : Type 1} → statement M
 is-unaccepted-spec = tie.close (tie.spec parent-requires wide-requires is-member-requires returns)

@@ -7,7 +7,7 @@ first-unaccepted-requires : tie.Need-first-unaccepted-requires
 first-unaccepted-requires c κs = search needs
 
 returns : tie.Need-returns
-returns c = cc
+returns c = rw (c .first-unaccepted .ensures)
 
 pub parents-accepted-spec : {M : Type 1} → statement M
 parents-accepted-spec = tie.close (tie.spec first-unaccepted-requires returns)

@@ -16,7 +16,7 @@ entry-of-requires : tie.Need-entry-of-requires
 entry-of-requires c κs = search needs
 
 returns : tie.Need-returns
-returns c = cc
+returns c = rw (c .before .before .before .is-preferred .ensures, c .before .before .is-last .ensures, c .before .head .ensures, c .entry-of .ensures)
 
 pub second-arm-spec : {M : Type 1} → statement M
 second-arm-spec =

@@ -16,7 +16,7 @@ head-requires-4 : tie.Need-head-requires-4
 head-requires-4 c κs = search needs
 
 returns : tie.Need-returns
-returns c = cc
+returns c = rw (c .head4 .ensures, c .before .head3 .ensures, c .before .before .head2 .ensures, c .before .before .before .head .ensures)
 
 pub setting-spec : {M : Type 1} → statement M
 setting-spec =

@@ -36,9 +36,24 @@ flag-requires-2 c κs = search needs
 returns : tie.Need-returns
 unfolding listRow
 returns c =
-    let S = c .before .before .before .before .before .before .before .before .before .before .before in
+    let P = c .before .before .before in
+    let C = P .before .before in
+    let G = C .before .before in
+    let S = G .before .before .before .before in
     let w = S .args .w .now in
-    cc (acceptedBelow-is w (bookings w) (S .args .i) (S .pre .1))
+    rw (
+      c .flag2 .ensures,
+      c .before .is-member .ensures,
+      S .pre .2,
+      acceptedBelow-is w (bookings w) (S .args .i) (S .pre .1),
+      c .before .before .flag .ensures,
+      P .is-preferred .ensures,
+      P .before .wide2 .ensures .0,
+      C .confidence-of .ensures,
+      C .before .wide .ensures .0,
+      G .get .ensures,
+      G .before .slot-of .ensures,
+    )
 
 pub row-of-spec : {M : Type 1} → statement M
 row-of-spec =

@@ -33,17 +33,25 @@ same-length : tie.Need-same-length
 same-length c = search needs
 
 looked-back : tie.Need-returns
-looked-back c = (c .look-back .ensures, cc)
+looked-back c =
+    let T = c .before .before .before .before in
+    let F = T .before .before .before .before in
+    let N = F .before .before .before .before .before .before in
+    (c .look-back .ensures, rw (T .set-bit2 .ensures, F .set-bit .ensures, N .second-bit .ensures, N .before .first-bit .ensures, N .before .before .name .ensures))
 
 same-length-2 : tie.Need-same-length-2
 same-length-2 c = search needs
 
 not-noted : tie.Need-returns-2
 not-noted c =
-    let B = c .before .before .before .before .before .before .before .before .before in
-    let F = B .before .before .before .before .before in
-    let S = F .before .before .before .before in
-    (sym (isNoted-new (S .args .w .now) (S .args .i) (rw (← S .pre .2, ← F .before .name .ensures, ← F .first-bit .ensures, ← B .before .before .before .before .second-bit .ensures, ← B .before .before .is-set .ensures, ← B .is-set2 .ensures) (c .if1 .left))), cc)
+    let T = c .before .before .before in
+    let F = T .before .before .before .before in
+    let B = F .before .before in
+    let N = B .before .before .before .before in
+    let S = N .before .before .before .before .before in (
+      sym (isNoted-new (S .args .w .now) (S .args .i) (rw (← S .pre .2, ← N .before .before .name .ensures, ← N .before .first-bit .ensures, ← N .second-bit .ensures, ← B .before .before .is-set .ensures, ← B .is-set2 .ensures) (c .if1 .left))),
+      rw (T .set-bit2 .ensures, F .set-bit .ensures, N .second-bit .ensures, N .before .first-bit .ensures, N .before .before .name .ensures),
+    )
 
 pub enter-spec : {M : Type 1} → statement M
 enter-spec =

@@ -22,7 +22,11 @@ same-length : tie.Need-same-length
 same-length c = search needs
 
 returns : tie.Need-returns
-returns c = cc
+returns c =
+    let O = c .before .before in
+    let S = O .before .before .before .before in
+    let P = S .before .before .before .before in
+    rw (O .set-field2 .ensures, S .set-field .ensures, P .set-head .ensures, P .before .before .head .ensures)
 
 pub note-spec : {M : Type 1} → statement M
 note-spec =

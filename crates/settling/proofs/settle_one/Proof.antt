@@ -31,8 +31,10 @@ same-length c = search needs
 member : tie.Need-returns
 unfolding settleOne
 member c =
-    let P = c .before .before .before .before .before .before in
-    simp (eq-eqb _ _ (P .before .before .before .before .before .if1 .taken)) (cc)
+    let F = c .before .before in
+    let P = F .before .before .before .before in
+    let G = P .before .before .before in
+    simp (eq-eqb _ _ (G .before .before .if1 .taken)) (rw (F .follow-one .ensures, P .prefer-one .ensures, P .before .before .wide .ensures .0, G .get .ensures))
 
 no-member : tie.Need-returns-2
 unfolding settleOne

@@ -10,7 +10,7 @@ wide-requires : tie.Need-wide-requires
 wide-requires c κs = search needs
 
 returns : tie.Need-returns
-returns c = cc
+returns c = rw (c .wide .ensures .0, c .before .entry-of .ensures)
 
 pub stands-at-spec : {M : Type 1} → statement M
 stands-at-spec = tie.close (tie.spec entry-of-requires wide-requires returns)

@@ -34,7 +34,11 @@ same-length : tie.Need-same-length
 same-length c = search needs
 
 returns : tie.Need-returns
-returns c = cc
+returns c =
+    let T = c .before .before in
+    let R = T .before .before .before .before in
+    let N = R .before .before .before .before in
+    rw (T .settle .ensures, R .raise .ensures, N .note .ensures, N .before .before .wide .ensures .0, N .before .before .before .head .ensures)
 
 pub write-success-spec : {M : Type 1} → statement M
 write-success-spec =

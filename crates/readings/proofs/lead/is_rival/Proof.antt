@@ -10,7 +10,7 @@ slot-of-requires-2 : tie.Need-slot-of-requires-2
 slot-of-requires-2 c κs = search needs
 
 returns : tie.Need-returns
-returns c = cc
+returns c = rw (c .slot-of2 .ensures, c .before .slot-of .ensures)
 
 pub is-rival-spec : {M : Type 1} → statement M
 is-rival-spec = tie.close (tie.spec slot-of-requires slot-of-requires-2 returns)
