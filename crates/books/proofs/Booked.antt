@@ -3,43 +3,20 @@ use mathlib.Core.Path.{_≡_}
 use mathlib.Core.Bool.{Bool, true, false, _||_, true≢false}
 use mathlib.Core.List.{List}
 use Prim.Native.Nat.{ℕ, _<_, _≤_}
-use native.Mathlib.Omega.{arith}
 use lib.ListN.{length}
 use lib.Dec.{eqb, leb, ltb}
-use borrow.Author.Tests.{eqb-false, leb-false, ltb-false}
+use borrow.Author.Tests.{leb-false, ltb-false}
 use Rattle.terms.specs.declared.answer.Answer.the-variants.{Refused}
-use Rattle.terms.specs.declared.answer.Refusal.the-variants.{NameTaken, BadSlot, BadParents, UnknownParent, ParentTwice, Full}
-use Rattle.rules.specs.Layout.{slots, mostParents, mostBookings, bookings}
-use Rattle.terms.specs.Answers.{outcome, done}
+use Rattle.terms.specs.declared.answer.Refusal.the-variants.{NameTaken, BadSlot, BadParents}
+use Rattle.rules.specs.Layout.{slots, mostParents}
+use Rattle.terms.specs.Answers.{outcome}
 use Rattle.rules.specs.Sound.{Ledger}
-use Rattle.rules.specs.Book.{lookUp, isFound, hasUnknown, hasTwice, booked}
+use Rattle.rules.specs.Book.{lookUp, isFound}
 use Rattle.rules.specs.Calls.{bookCall}
 use Rattle.laws.proofs.Tested.{tested-known}
-use Rattle.books.specs.Parents.{parentsCall}
+use Rattle.parentage.specs.Parents.{parentsCall}
 
 module _ (w : List ℕ) (name slot : ℕ) (parents : List ℕ) where
-  -- ---- 7, 8, 9
-
-  pub parents-unknown : hasUnknown w parents ≡ true → outcome (Refused UnknownParent) w ≡ parentsCall w name slot parents
-  unfolding parentsCall
-  parents-unknown u = rw u
-
-  module _ (known : hasUnknown w parents ≡ false) where
-    pub parents-twice : hasTwice parents ≡ true → outcome (Refused ParentTwice) w ≡ parentsCall w name slot parents
-    unfolding parentsCall
-    parents-twice t = rw (known, t)
-
-    module _ (once : hasTwice parents ≡ false) where
-      pub parents-full : eqb (bookings w) mostBookings ≡ true → outcome (Refused Full) w ≡ parentsCall w name slot parents
-      unfolding parentsCall
-      parents-full f = rw (known, once, f)
-
-      pub parents-taken : eqb (bookings w) mostBookings ≡ false → outcome done (booked w name slot parents) ≡ parentsCall w name slot parents
-      unfolding parentsCall
-      parents-taken f = rw (known, once, f)
-
-  -- ---- 4, 5, 6
-
   module _ (ledger : Ledger w) where
     pub book-name : isFound (lookUp w name) ≡ true → outcome (Refused NameTaken) w ≡ bookCall w name slot parents
     unfolding bookCall
@@ -70,6 +47,3 @@ slot-lt slot e = leb-false slots slot (neither-second (eqb slot 0) (leb slots sl
 
 pub count-most : (n : ℕ) → (eqb n 0 || ltb mostParents n) ≡ false → n ≤ mostParents
 count-most n e = ltb-false mostParents n (neither-second (eqb n 0) (ltb mostParents n) e)
-
-pub not-full : (n : ℕ) → n ≤ mostBookings → eqb n mostBookings ≡ false → n < mostBookings
-not-full n h e = omega (arith, eqb-false n mostBookings e)

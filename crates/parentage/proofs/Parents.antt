@@ -15,7 +15,7 @@ use Rattle.rules.specs.Layout.{mostParents, none}
 use Rattle.terms.specs.Answers.{done}
 use Rattle.rules.specs.Book.{isAbsent, parentFound, hasUnknown}
 use Rattle.booking.specs.Numbered.{parentNumbers}
-use Rattle.books.specs.Parents.{firstUnknown, withNumbers, Looked, isRefusal}
+use Rattle.parentage.specs.Parents.{firstUnknown, withNumbers, Looked, isRefusal}
 
 -- four unused places, filled from the first on
 pub withNumbers-all : (w parents : List ℕ) → length parents ≤ mostParents → withNumbers w parents (length parents) (replicate mostParents none) ≡ parentNumbers w parents

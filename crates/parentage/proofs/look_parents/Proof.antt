@@ -11,9 +11,9 @@ use Rattle.loops.proofs.Turns.{upTo-zero, upTo-more}
 use Rattle.loops.proofs.Search.{Searched, search-start, search-hit, search-miss, search-over}
 use Rattle.rules.specs.Book.{parentFound, isAbsent, hasUnknown}
 use Rattle.laws.proofs.Lookup.{found-below}
-use Rattle.books.specs.Parents.{firstUnknown, withNumbers}
-use Rattle.books.proofs.look_parents.Statement.{statement}
-use Rattle.books.proofs.look_parents.Tie as tie
+use Rattle.parentage.specs.Parents.{firstUnknown, withNumbers}
+use Rattle.parentage.proofs.look_parents.Statement.{statement}
+use Rattle.parentage.proofs.look_parents.Tie as tie
 
 abbrev isUnknown : List ℕ → List ℕ → ℕ → Bool
 isUnknown w parents a = isAbsent (parentFound w parents a)

@@ -7,10 +7,10 @@ use borrow.Author.Needs.{needs}
 use Rattle.rules.specs.Book.{hasUnknown}
 use Rattle.booking.specs.Numbered.{parentNumbers}
 use Rattle.booking.proofs.Numbers.{bookedWith-numbers}
-use Rattle.books.proofs.Parents.{withNumbers-all, firstUnknown-none, looked-refusal, looked-unknown}
-use Rattle.books.proofs.Booked.{parents-unknown, parents-twice, parents-full, parents-taken, not-full}
-use Rattle.books.proofs.book_parents.Statement.{statement}
-use Rattle.books.proofs.book_parents.Tie as tie
+use Rattle.parentage.proofs.Parents.{withNumbers-all, firstUnknown-none, looked-refusal, looked-unknown}
+use Rattle.parentage.proofs.Judged.{parents-unknown, parents-twice, parents-full, parents-taken, not-full}
+use Rattle.parentage.proofs.book_parents.Statement.{statement}
+use Rattle.parentage.proofs.book_parents.Tie as tie
 
 -- ---- where all that the refusals ask was asked
 

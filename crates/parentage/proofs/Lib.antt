@@ -1,0 +1,3 @@
+-- Laws that several proofs cite, or that speak of the definitions alone. They assume nothing.
+pub mod Parents
+pub mod Judged
