@@ -37,7 +37,7 @@ loop-again c =
     let marked = c .before .before .mark-one in
     let parent = c .before .before .before .parent in
     let turn = c .before .before .before .before .before .before .loop in
-    (omega arith, omega (arith, marked .kept .0), rw (upTo-more, ← turn .inv .2, ← parent .ensures) (marked .ensures))
+    (omega arith, omega (arith, marked .kept .0), rw (upTo-more, ← turn .inv .2) (rw (parent .ensures) at (marked .ensures)))
 
 same-length : tie.Need-same-length Inv-loop μ-loop
 same-length c = omega arith

@@ -37,7 +37,7 @@ looked-back c =
     let T = c .before .before .before .before in
     let F = T .before .before .before .before in
     let N = F .before .before .before .before .before .before in
-    (c .look-back .ensures, rw (T .set-bit2 .ensures, F .set-bit .ensures, N .second-bit .ensures, N .before .first-bit .ensures, N .before .before .name .ensures))
+    (c .look-back .ensures, simp (T .set-bit2 .ensures, F .set-bit .ensures, N .second-bit .ensures, N .before .first-bit .ensures, N .before .before .name .ensures))
 
 same-length-2 : tie.Need-same-length-2
 same-length-2 c = search needs
@@ -50,7 +50,7 @@ not-noted c =
     let N = B .before .before .before .before in
     let S = N .before .before .before .before .before in (
       sym (isNoted-new (S .args .w .now) (S .args .i) (rw (← S .pre .2, ← N .before .before .name .ensures, ← N .before .first-bit .ensures, ← N .second-bit .ensures, ← B .before .before .is-set .ensures, ← B .is-set2 .ensures) (c .if1 .left))),
-      rw (T .set-bit2 .ensures, F .set-bit .ensures, N .second-bit .ensures, N .before .first-bit .ensures, N .before .before .name .ensures),
+      simp (T .set-bit2 .ensures, F .set-bit .ensures, N .second-bit .ensures, N .before .first-bit .ensures, N .before .before .name .ensures),
     )
 
 pub enter-spec : {M : Type 1} → statement M

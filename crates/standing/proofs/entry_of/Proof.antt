@@ -14,7 +14,7 @@ get-entry-requires c κs =
     omega (arith, slotOf-lt (start .args .w .now) (start .pre .0 .sound) (start .args .j) (start .pre .1))
 
 returns : tie.Need-returns
-returns c = rw (← c .before .slot-of .ensures) (c .get-entry .ensures)
+returns c = rw (c .before .slot-of .ensures) at (c .get-entry .ensures)
 
 pub entry-of-spec : {M : Type 1} → statement M
 entry-of-spec = tie.close (tie.spec slot-of-requires get-entry-requires returns)

@@ -22,7 +22,7 @@ how-many-requires c κs = search needs
 returns : tie.Need-returns
 unfolding queryOf
 returns c =
-    rw (← c .before .before .before .before .mark-ancestry .ensures, ← c .before .first-in-the-way .ensures, ← c .how-many .ensures)
+    rw (c .how-many .ensures, c .before .first-in-the-way .ensures, c .before .before .before .before .mark-ancestry .ensures)
 
 pub query-of-spec : {M : Type 1} → statement M
 query-of-spec =

@@ -21,7 +21,7 @@ marked-below-requires c κs = search needs
 
 returns : tie.Need-returns
 unfolding sizeOf
-returns c = rw (← c .before .how-many .ensures, ← c .before .before .before .before .mark-ancestry .ensures) (c .marked-below .ensures)
+returns c = rw (c .before .how-many .ensures, c .before .before .before .before .mark-ancestry .ensures) at (c .marked-below .ensures)
 
 pub size-of-spec : {M : Type 1} → statement M
 size-of-spec =
