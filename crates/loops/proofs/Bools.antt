@@ -54,6 +54,11 @@ row-by l = rowFrom-by true l refl
 
 -- ---- either, and one by a test
 
+-- where neither passes, both fail
+pub neither : (a b : Bool) → (a || b) ≡ false → (a ≡ false) × (b ≡ false)
+neither true b e = absurd (true≢false e)
+neither false b e = (refl, e)
+
 -- where the first of two fails, the second passes
 pub or-right : (a b : Bool) → (a || b) ≡ true → a ≡ false → b ≡ true
 or-right true b e f = absurd (true≢false f)

@@ -10,6 +10,7 @@ use lib.IntN.{ℤ}
 use lib.ListN.{length, getD}
 use lib.Dec.{eqb, leb, ltb}
 use borrow.Author.Tests.{eqb-true, eqb-false, leb-false, ltb-false, not-false}
+use Rattle.loops.proofs.Bools.{neither}
 use Rattle.loops.specs.Search.{any}
 use Rattle.loops.proofs.Search.{none→}
 use Rattle.terms.specs.declared.setting.Setting.{Setting}
@@ -92,11 +93,6 @@ module _ {v : ℤ} where
   asked-passed : (f : Found) (rest : ℕ → Answer) → askedOf f rest ≡ Taken v → (f ≡ At (numberOf f)) × (rest (numberOf f) ≡ Taken v)
   asked-passed (At i) rest e = (refl, e)
   asked-passed Absent rest e = absurd (true≢false (sym (ap isTaken e)))
-
--- neither of two tests passed
-neither : (a b : Bool) → (a || b) ≡ false → (a ≡ false) × (b ≡ false)
-neither true b e = absurd (true≢false e)
-neither false b e = (refl, e)
 
 -- no parent is named twice
 distinct-names : (parents : List ℕ) → hasTwice parents ≡ false → (a b : ℕ) → a < b → b < length parents → getD parents a 0 ≢ getD parents b 0
