@@ -16,6 +16,7 @@
 //! - `compare`: the runs
 //! - `tally`: what the runs have reached
 //! - `station`: the product through its C face
+//! - `relay`: the same in a program beside this one
 //! - `planted`: a copy of the rules with errors to be found
 //!
 //! Console against console:
@@ -36,6 +37,7 @@ pub mod guard;
 pub mod names;
 pub mod planted;
 pub mod prng;
+pub mod relay;
 pub mod report;
 pub mod scramble;
 #[cfg(feature = "station")]

@@ -4,6 +4,7 @@ use random::call::{Face, Second};
 use random::compare;
 use random::consoles::{self, Executable, MISREAD};
 use random::planted::{Plant, Planted};
+use random::relay::Relay;
 use random::report;
 use random::tally::{self, Tally};
 use std::process::ExitCode;
@@ -13,6 +14,7 @@ use std::{env, io};
 const USAGE: &str = "\
 random consoles COUNT [SEED] --ours PATH   our console against the second one
 random calls COUNT [SEED]                  our library against the second one
+random calls COUNT [SEED] --ours RELAY     the same, asked through a program
 random calls COUNT [SEED] --copy           a copy of the second one against it
 random plant [COUNT] [SEED]                planted errors must be found";
 
@@ -78,7 +80,10 @@ impl Order {
         match &self.what[..] {
             "consoles" => self.consoles(),
             "calls" if self.is_copy => self.calls(&Planted(None)),
-            "calls" => self.calls(station()?),
+            "calls" => match &self.ours {
+                Some(program) => self.calls(&relay(program)?),
+                None => self.calls(station()?),
+            },
             _ => self.plant(),
         }
     }
@@ -161,6 +166,10 @@ fn station() -> Result<&'static dyn Face, String> {
 #[cfg(not(feature = "station"))]
 fn station() -> Result<&'static dyn Face, String> {
     Err("built without the feature `station`".to_string())
+}
+
+fn relay(program: &str) -> Result<Relay, String> {
+    Relay::start(program).map_err(|error| format!("{program} does not start: {error}"))
 }
 
 /// Prints what was reached; too little is a failure.

@@ -1,0 +1,77 @@
+//! The product's C face, called by a program beside this one: for a machine
+//! that cannot link the library, which is compiled for x86-64.
+
+use crate::call::{Call, Face};
+use second::words::Answer;
+use std::cell::RefCell;
+use std::io::{self, Read, Write};
+use std::process::{ChildStdin, ChildStdout, Command, Stdio};
+
+/// Told of a call that wrote beside the lent words. No call gives it.
+pub const WROTE_OUTSIDE: u32 = u32::MAX;
+
+/// A running `relay.c`.
+pub struct Relay(RefCell<(ChildStdin, ChildStdout)>);
+
+impl Relay {
+    pub fn start(program: &str) -> io::Result<Relay> {
+        let mut child = Command::new(program)
+            .stdin(Stdio::piped())
+            .stdout(Stdio::piped())
+            .spawn()?;
+        let stdin = child.stdin.take().expect("it was asked for");
+        let stdout = child.stdout.take().expect("it was asked for");
+        Ok(Relay(RefCell::new((stdin, stdout))))
+    }
+
+    fn ask(&self, ws: &mut [u16], call: &Call) -> io::Result<Answer> {
+        let (stdin, stdout) = &mut *self.0.borrow_mut();
+        stdin.write_all(&request(ws, call))?;
+        let mut told = [[0; 8]; 3];
+        for number in &mut told {
+            stdout.read_exact(number)?;
+        }
+        let mut left = vec![0; 2 * ws.len()];
+        stdout.read_exact(&mut left)?;
+        for (word, bytes) in ws.iter_mut().zip(left.chunks_exact(2)) {
+            *word = u16::from_le_bytes([bytes[0], bytes[1]]);
+        }
+        let [number, is_intact, value] = told.map(u64::from_le_bytes);
+        if is_intact == 0 {
+            return Ok((WROTE_OUTSIDE, 0));
+        }
+        Ok((number as u32, value as i64))
+    }
+}
+
+impl Face for Relay {
+    fn call(&self, ws: &mut [u16], call: &Call) -> Answer {
+        self.ask(ws, call)
+            .unwrap_or_else(|error| panic!("the relay no longer answers: {error}, on {call:?}"))
+    }
+}
+
+/// A call as `struct asked` of `relay.c`, with the words and its list.
+fn request(ws: &[u16], call: &Call) -> Vec<u8> {
+    let kind = Call::KINDS.iter().position(|kind| *kind == call.kind());
+    let (name, numbers, count, list) = match call {
+        Call::Open(s) => (0, [s.k, s.a, s.beta1, s.beta2], 0, Vec::new()),
+        Call::Book {
+            name,
+            slot,
+            parents,
+        } => {
+            let list = parents.iter().flat_map(|p| p.to_le_bytes()).collect();
+            (*name, [*slot, 0, 0, 0], parents.len(), list)
+        }
+        Call::Poll { name, votes } => (*name, [0; 4], votes.len(), votes.clone()),
+        Call::Read(_, name) => (*name, [0; 4], 0, Vec::new()),
+    };
+    let kind = kind.expect("every kind is listed") as u64;
+    let head = [kind, ws.len() as u64, name, count as u64];
+    let mut bytes: Vec<u8> = head.iter().flat_map(|n| n.to_le_bytes()).collect();
+    bytes.extend(numbers.iter().flat_map(|n| n.to_le_bytes()));
+    bytes.extend(ws.iter().flat_map(|word| word.to_le_bytes()));
+    bytes.extend(list);
+    bytes
+}
