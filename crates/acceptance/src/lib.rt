@@ -1,4 +1,5 @@
 // Which bookings are accepted.
+use readings::booking;
 use rules::layout;
 ghost use mathlib.Core.Path.{_≡_};
 ghost use mathlib.Core.Bool.{_||_};
@@ -48,8 +49,8 @@ fn first_arm(w: &[u16], m: &[u8], j: usize) -> bool
     ensures { λ r. ⌜ r ≡ firstArm (now (w .entry)) (now (m .entry)) j ⌝ }
 {
     parents_accepted(w, m, j)
-        & (standing::entry_of(w, j, layout::HELD) == 1)
-        & (words::head(w, layout::BETA1) < standing::entry_of(w, j, layout::COUNTER))
+        & (booking::entry_of(w, j, layout::HELD) == 1)
+        & (words::head(w, layout::BETA1) < booking::entry_of(w, j, layout::COUNTER))
 }
 
 // The booking is both preferred and last in its slot, and the counter is above beta2: only one of two rivals is.
@@ -59,7 +60,7 @@ fn second_arm(w: &[u16], j: usize) -> bool
 {
     standing::is_preferred(w, j)
         & standing::is_last(w, j)
-        & (words::head(w, layout::BETA2) < standing::entry_of(w, j, layout::COUNTER))
+        & (words::head(w, layout::BETA2) < booking::entry_of(w, j, layout::COUNTER))
 }
 
 // The genesis, or by one of the arms.

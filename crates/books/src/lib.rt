@@ -4,6 +4,9 @@ use terms::answer::Answer;
 use terms::answer::Found;
 use terms::answer::Refusal;
 ghost use mathlib.Core.Path.{_≡_};
+ghost use mathlib.Core.Bool.{_||_};
+ghost use lib.Dec.{eqb, leb, ltb};
+ghost use Rattle.rules.specs.Layout.{slots, mostParents};
 ghost use Rattle.terms.specs.Answers.{outcome};
 ghost use Rattle.rules.specs.Sound.{Ledger};
 ghost use Rattle.rules.specs.Book.{lookUp, isFound};
@@ -20,15 +23,28 @@ fn is_booked(w: &[u16], name: u64) -> bool
     }
 }
 
+// Slot 0 is the genesis's alone, and above 255 there is none.
+fn is_bad_slot(slot: u16) -> bool
+    ensures { λ r. ⌜ r ≡ (eqb slot 0 || leb slots slot) ⌝ }
+{
+    (slot == 0) | (layout::SLOTS <= words::wide(slot))
+}
+
+// A booking has one to four parents.
+fn is_bad_count(count: usize) -> bool
+    ensures { λ r. ⌜ r ≡ (eqb count 0 || ltb mostParents count) ⌝ }
+{
+    (count == 0) | (layout::MOST_PARENTS < count)
+}
+
 // Refusals 4, 5 and 6 come before those of the parents.
 pub fn book(w: &mut [u16], name: u64, slot: u16, parents: &[u64]) -> Answer
     requires { ⌜ Ledger (now w) ⌝ }
     ensures { λ r. ⌜ outcome r (now (w .exit)) ≡ bookCall (now (w .entry)) name slot (now (parents .entry)) ⌝ }
 {
-    let count = parents.len();
     let taken = is_booked(w, name);
-    let bad_slot = (slot == 0) | (layout::SLOTS <= words::wide(slot));
-    let bad_count = (count == 0) | (layout::MOST_PARENTS < count);
+    let bad_slot = is_bad_slot(slot);
+    let bad_count = is_bad_count(parents.len());
     if taken {
         return Answer::Refused(Refusal::NameTaken);
     }

@@ -84,7 +84,7 @@ fn tell(line: &[u8], first: u8, w: &mut Words, lent: usize) {
 
 // `words n`.
 fn lend(line: &[u8]) -> usize {
-    let end = scan::word::word_end(line);
+    let end = keyword::word::word_end(line);
     let Step::Next(n, _) = scan::step::next_number(line, end, LONG as u64) else {
         return 0;
     };

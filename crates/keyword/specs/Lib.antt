@@ -1,2 +1,3 @@
--- What the word that begins a line asks for.
+-- What the words of a line are, and what the word that begins it asks for.
+pub mod Words
 pub mod Keywords

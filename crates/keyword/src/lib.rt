@@ -1,4 +1,6 @@
 // The word that begins a line.
+pub mod word;
+
 use terms::answer::Reading;
 ghost use mathlib.Core.Path.{_≡_};
 ghost use mathlib.Core.Bool.{cond};

@@ -6,7 +6,7 @@ use Rattle.loops.specs.Search.{firstFrom}
 use Rattle.loops.specs.Turns.{upTo}
 use Rattle.text.specs.Bytes.{bytes}
 use Rattle.terms.specs.declared.answer.Reading.the-variants.{Query, Accepted, Lead, Confidence, Size}
-use Rattle.scan.specs.Words.{words, wordEnd, wordsAfter}
+use Rattle.keyword.specs.Words.{words, wordEnd, wordsAfter}
 use Rattle.number.specs.Numbers.{valueOf, isNumber, numberOf, voteOf}
 use Rattle.keyword.specs.Keywords.{isSame}
 use Rattle.scan.specs.Lists.{leading, manyOf}

@@ -8,7 +8,7 @@ use lib.ListN.{length}
 use lib.Seq.{sets}
 use Rattle.number.specs.declared.Number.{Number}
 use Rattle.scan.specs.declared.step.Step.the-variants.{Next, Stop}
-use Rattle.scan.specs.Words.{wordsAfter}
+use Rattle.keyword.specs.Words.{wordsAfter}
 use Rattle.scan.specs.Steps.{stepOf}
 use Rattle.scan.specs.declared.many.Many.{Many}
 use Rattle.parse.specs.declared.command.Command.{Command}

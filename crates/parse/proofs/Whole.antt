@@ -9,7 +9,7 @@ use Rattle.number.specs.declared.Number.the-variants.{Value, Bad as NoNumber}
 use Rattle.parse.specs.declared.command.Command.{Command}
 use Rattle.parse.specs.declared.command.Command.the-variants.{Bad}
 use Rattle.keyword.specs.declared.Keyword.{Keyword}
-use Rattle.scan.specs.Words.{wordEnd, wordsAfter}
+use Rattle.keyword.specs.Words.{wordEnd, wordsAfter}
 use Rattle.keyword.specs.Keywords.{keywordOf}
 use Rattle.parse.specs.Line.{valued, number, alone, bookSays, pollSays, keywordSays, wordsSay, lineSays, Booked, Polled, Parsed}
 use Rattle.scan.proofs.Split.{words-first}

@@ -23,7 +23,7 @@ use Rattle.keyword.specs.declared.Keyword.the-variants.{
   List as listWord,
   Unknown,
 }
-use Rattle.scan.specs.Words.{words}
+use Rattle.keyword.specs.Words.{words}
 use Rattle.number.specs.Numbers.{shortMost, nameOf, shortOf, voteOf}
 use Rattle.keyword.specs.Keywords.{keywordOf}
 use Rattle.scan.specs.Lists.{openMost, parentsMost, votesMost, leading, manyOf}

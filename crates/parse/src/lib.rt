@@ -10,7 +10,7 @@ ghost use Rattle.parse.specs.Line.{Parsed};
 pub fn parse(line: &[u8], parents: &mut [u64; 16], votes: &mut [u8; 64]) -> Command
     ensures { λ r. ⌜ Parsed (now (line .entry)) (now (parents .entry)) (now (votes .entry)) r (now (parents .exit)) (now (votes .exit)) ⌝ }
 {
-    let end = scan::word::word_end(line);
+    let end = keyword::word::word_end(line);
     match keyword::read_keyword(&line[..end]) {
         Keyword::Open => line::read_open(line, end),
         Keyword::Book => line::read_book(line, end, parents),

@@ -10,7 +10,7 @@ use terms::setting::Setting;
 ghost use mathlib.Core.Path.{_≡_};
 ghost use lib.ListN.{length};
 ghost use Prim.Native.Nat.{_≤_};
-ghost use Rattle.scan.specs.Words.{wordsAfter};
+ghost use Rattle.keyword.specs.Words.{wordsAfter};
 ghost use Rattle.scan.specs.Lists.{parentsMost, votesMost};
 ghost use Rattle.parse.specs.Line.{
   AllShort,

@@ -12,7 +12,7 @@ ghost use Prim.Native.Nat.{_<_};
 ghost use mathlib.Core.Bool.{not};
 ghost use lib.ListN.{length};
 ghost use lib.Dec.{eqb};
-ghost use Rattle.rules.specs.Layout.{size, mostBookings, bookings, stateOf};
+ghost use Rattle.rules.specs.Layout.{size, mostBookings, bookings, settingIn, stateOf};
 ghost use Rattle.terms.specs.Answers.{outcome};
 ghost use Rattle.rules.specs.Sound.{Ledger};
 ghost use Rattle.rules.specs.Poll.{isSuccess, polled};
@@ -53,6 +53,14 @@ fn is_polled(w: &[u16], i: usize) -> bool
     }
 }
 
+// There are not as many votes as stations are asked.
+fn is_miscounted(w: &[u16], count: usize) -> bool
+    requires { ⌜ length (now w) ≡ size ⌝ }
+    ensures { λ r. ⌜ r ≡ not (eqb count (settingIn (now (w .entry)) .k)) ⌝ }
+{
+    count != words::wide(words::head(w, layout::K))
+}
+
 // What refusals 11, 12 and 13 ask is asked of the booking found; then the first that applies is given, or the poll is written.
 pub fn poll(w: &mut [u16], name: u64, votes: &[u8]) -> Answer
     requires { ⌜ Ledger (now w) ⌝ }
@@ -62,7 +70,7 @@ pub fn poll(w: &mut [u16], name: u64, votes: &[u8]) -> Answer
         return Answer::Refused(Refusal::UnknownName);
     };
     let polled = is_polled(w, i);
-    let miscounted = votes.len() != words::wide(words::head(w, layout::K));
+    let miscounted = is_miscounted(w, votes.len());
     let bad_vote = votes::has_refused(votes);
     if polled {
         return Answer::Refused(Refusal::NotWaiting);

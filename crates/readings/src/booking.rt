@@ -1,10 +1,19 @@
-// How many bookings there are, which has a name, and single words of one.
+// How many bookings there are, which has a name, and single words of one and of its slot.
 use rules::layout;
 use terms::answer::Found;
 ghost use mathlib.Core.Path.{_≡_};
 ghost use Prim.Native.Nat.{_<_, _≤_};
 ghost use lib.ListN.{length};
-ghost use Rattle.rules.specs.Layout.{size, mostBookings, bookings, slotOf, confidenceOf};
+ghost use Rattle.rules.specs.Layout.{
+  size,
+  mostBookings,
+  slotWords,
+  bookings,
+  slotOf,
+  confidenceOf,
+  entry,
+};
+ghost use Rattle.rules.specs.Sound.{Ledger};
 ghost use Rattle.rules.specs.Book.{lookUp};
 
 // How many bookings the ledger has.
@@ -43,4 +52,12 @@ pub fn confidence_of(w: &[u16], i: usize) -> u16
     ensures { λ r. ⌜ r ≡ confidenceOf (now (w .entry)) i ⌝ }
 {
     words::get(w, i, layout::CONFIDENCE)
+}
+
+// Word f of the entry of booking j's slot.
+pub fn entry_of(w: &[u16], j: usize, f: usize) -> u16
+    requires { ⌜ Ledger (now w) × (j < bookings (now w)) × (f < slotWords) ⌝ }
+    ensures { λ r. ⌜ r ≡ entry (now (w .entry)) (slotOf (now (w .entry)) j) f ⌝ }
+{
+    words::get_entry(w, slot_of(w, j), f)
 }

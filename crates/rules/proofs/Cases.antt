@@ -180,8 +180,10 @@ rivals c =
     let parted = withEntry poll2 7 lastField 3 in
     let poll3 = c .poll poll2 3 (1 ∷ []) .words in
     let poll4 = c .poll (c .book poll3 4 9 (1 ∷ 3 ∷ []) .words) 4 (1 ∷ []) .words in
+    -- before any poll, query of 1 and 3
+    (c .query booked 1 ∷ c .query booked 3 ∷ [])
     -- after the polls of 1 and 2: the slot's four words, and accepted of 1 and 3
-    (is (preferredIn poll2 7) ∷ is (lastIn poll2 7) ∷ is (counterIn poll2 7) ∷ is (heldIn poll2 7) ∷ c .accepted poll2 1 ∷ c .accepted poll2 3 ∷ [])
+    ∷ (is (preferredIn poll2 7) ∷ is (lastIn poll2 7) ∷ is (counterIn poll2 7) ∷ is (heldIn poll2 7) ∷ c .accepted poll2 1 ∷ c .accepted poll2 3 ∷ [])
     -- were 3 the last one by that counter: neither rival is both preferred and last, and neither is accepted
     ∷ (c .accepted parted 1 ∷ c .accepted parted 3 ∷ [])
     -- the poll of 3 makes it last, with a counter of 0
@@ -192,7 +194,8 @@ rivals c =
 
 unfoldable pub rivalsSay : List (List Answer)
 rivalsSay =
-    (is 1 ∷ is 1 ∷ is 2 ∷ is 2 ∷ is 1 ∷ is 0 ∷ [])
+    (is 1 ∷ is 0 ∷ [])
+    ∷ (is 1 ∷ is 1 ∷ is 2 ∷ is 2 ∷ is 1 ∷ is 0 ∷ [])
     ∷ (is 0 ∷ is 0 ∷ [])
     ∷ (is 1 ∷ is 3 ∷ is 0 ∷ is 0 ∷ [])
     ∷ (is 3 ∷ is 0 ∷ [])

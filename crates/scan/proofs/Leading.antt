@@ -15,7 +15,7 @@ use Rattle.number.specs.declared.Number.the-variants.{Value, Bad}
 use Rattle.scan.specs.declared.many.Many.{Many}
 use Rattle.scan.specs.declared.many.Many.the-variants.{Count, Refused}
 use Rattle.scan.specs.declared.step.Step.the-variants.{Next, Stop}
-use Rattle.scan.specs.Words.{wordsAfter}
+use Rattle.keyword.specs.Words.{wordsAfter}
 use Rattle.number.specs.Numbers.{numberOf}
 use Rattle.scan.specs.Steps.{stepOf}
 use Rattle.scan.specs.Lists.{ahead, leading, isList, manyOf, Listed}

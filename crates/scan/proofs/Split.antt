@@ -14,7 +14,7 @@ use borrow.Author.Tests.{lt-ltb, le-ltb}
 use Rattle.loops.specs.Search.{firstFrom}
 use Rattle.loops.proofs.Search.{first-le}
 use Rattle.text.specs.Bytes.{space}
-use Rattle.scan.specs.Words.{before, words, wordEnd, firstWord, wordsAfter}
+use Rattle.keyword.specs.Words.{before, words, wordEnd, firstWord, wordsAfter}
 use Rattle.scan.specs.Steps.{wordAfter, endAfter}
 
 pub wordEnd-le : (line : List ℕ) → wordEnd line ≤ length line

@@ -9,7 +9,7 @@ use Rattle.number.specs.declared.Number.{Number}
 use Rattle.number.specs.declared.Number.the-variants.{Value, Bad}
 use Rattle.scan.specs.declared.step.Step.{Step}
 use Rattle.scan.specs.declared.step.Step.the-variants.{Next, Stop}
-use Rattle.scan.specs.Words.{wordEnd, wordsAfter}
+use Rattle.keyword.specs.Words.{wordEnd, wordsAfter}
 use Rattle.scan.specs.Steps.{wordAfter, endAfter, stepBy, stepOf}
 use Rattle.scan.proofs.Split.{wordsAfter-next, endAfter-le}
 

@@ -1,4 +1,3 @@
--- What the words of a line are: where they end, numbers, votes, and lists of them.
-pub mod Words
+-- What the words after the first are: the next one, numbers, votes, and lists of them.
 pub mod Steps
 pub mod Lists

@@ -8,7 +8,7 @@ use Rattle.number.specs.declared.Number.{Number}
 use Rattle.number.specs.declared.Number.the-variants.{Value, Bad}
 use Rattle.scan.specs.declared.step.Step.{Step}
 use Rattle.scan.specs.declared.step.Step.the-variants.{Next, Stop}
-use Rattle.scan.specs.Words.{wordEnd, firstWord}
+use Rattle.keyword.specs.Words.{wordEnd, firstWord}
 
 abbrev pub wordAfter : List ℕ → ℕ → List ℕ
 wordAfter line at = firstWord (drop (at + 1) line)

@@ -1,4 +1,3 @@
-// The words of a line: where they end, numbers, votes, and lists of them. What each means is in specs/.
+// The words after the first: the next one, numbers, votes, and lists of them. What each means is in specs/.
 pub mod many;
 pub mod step;
-pub mod word;

@@ -4,7 +4,7 @@ use crate::step::next_number;
 use crate::step::next_vote;
 ghost use lib.ListN.{length};
 ghost use Prim.Native.Nat.{_≤_};
-ghost use Rattle.scan.specs.Words.{wordsAfter};
+ghost use Rattle.keyword.specs.Words.{wordsAfter};
 ghost use Rattle.number.specs.Numbers.{numberOf, voteOf};
 ghost use Rattle.scan.specs.Lists.{Listed};
 

@@ -1,5 +1,5 @@
 // The next word of a line, read at the place where the word before it ends.
-use crate::word::word_end;
+use keyword::word::word_end;
 use number::Number;
 use number::read_number;
 use number::read_vote;

@@ -10,20 +10,12 @@ ghost use Rattle.rules.specs.Sound.{Ledger};
 ghost use Rattle.rules.specs.Readings.{isPreferred, isLast, queryOf};
 ghost use Rattle.standing.specs.Steps.{inTheWay};
 
-// Word f of the entry of booking j's slot.
-pub fn entry_of(w: &[u16], j: usize, f: usize) -> u16
-    requires { ⌜ Ledger (now w) × (j < bookings (now w)) × (f < slotWords) ⌝ }
-    ensures { λ r. ⌜ r ≡ entry (now (w .entry)) (slotOf (now (w .entry)) j) f ⌝ }
-{
-    words::get_entry(w, booking::slot_of(w, j), f)
-}
-
 // Whether word f of the entry of booking j's slot is j itself.
 fn stands_at(w: &[u16], j: usize, f: usize) -> bool
     requires { ⌜ Ledger (now w) × (j < bookings (now w)) × (f < slotWords) ⌝ }
     ensures { λ r. ⌜ r ≡ eqb (entry (now (w .entry)) (slotOf (now (w .entry)) j) f) j ⌝ }
 {
-    words::wide(entry_of(w, j, f)) == j
+    words::wide(booking::entry_of(w, j, f)) == j
 }
 
 // Whether booking j is preferred in its slot.

@@ -4,7 +4,7 @@ use Prim.Native.Nat.{_≤_}
 use native.Mathlib.Omega.{arith}
 use lib.ListN.{length, length-take}
 use Rattle.parse.specs.Line.{lineSays, keywordSays}
-use Rattle.scan.specs.Words.{wordsAfter}
+use Rattle.keyword.specs.Words.{wordsAfter}
 use Rattle.scan.proofs.Split.{wordEnd-le}
 use Rattle.parse.proofs.Whole.{line-says, parsed-alone, parsed-booked, parsed-polled}
 use borrow.Author.Needs.{needs}

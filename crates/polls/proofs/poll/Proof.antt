@@ -4,6 +4,7 @@ use mathlib.Core.Bool.{not}
 use mathlib.Core.List.{List}
 use Prim.Native.Nat.{ℕ, _<_}
 use native.Mathlib.Omega.{arith}
+use lib.ListN.{length}
 use lib.Dec.{eqb}
 use borrow.Author.Needs.{needs}
 use Rattle.terms.specs.declared.answer.Found.the-variants.{At}
@@ -36,16 +37,16 @@ module _ (I : tie.After-i) where
 
 module _ (J : tie.After-has-refused) where
   abbrev at : tie.After-i
-  at = J .before .before .before .before .before .before .before
+  at = J .before .before .before .before .before .before
 
   abbrev votes : List ℕ
   votes = start at .args .votes .now
 
-  over : J .before .before .before .before .is-polled .result ≡ not (eqb (stateOf (w at) (i at)) 0)
-  over = J .before .before .before .before .is-polled .ensures
+  over : J .before .before .before .is-polled .result ≡ not (eqb (stateOf (w at) (i at)) 0)
+  over = J .before .before .before .is-polled .ensures
 
-  k-votes : J .before .wide .result ≡ settingIn (w at) .k
-  k-votes = J .before .wide .ensures .0 ∙ J .before .before .head .ensures
+  counted : J .before .is-miscounted .result ≡ not (eqb (length votes) (settingIn (w at) .k))
+  counted = J .before .is-miscounted .ensures
 
 -- ---- the needs
 
@@ -69,11 +70,8 @@ absent c =
 is-polled-requires : tie.Need-is-polled-requires
 is-polled-requires c κs = let I = c .before .before in (search needs, omega (arith, start I .pre .sound .bookingsMost, below I))
 
-head-requires : tie.Need-head-requires
-head-requires c κs = search needs
-
-wide-requires : tie.Need-wide-requires
-wide-requires c κs = search needs
+is-miscounted-requires : tie.Need-is-miscounted-requires
+is-miscounted-requires c κs = search needs
 
 has-refused-requires : tie.Need-has-refused-requires
 has-refused-requires c κs = search needs
@@ -92,7 +90,7 @@ same-length-3 c = search needs
 miscounted : tie.Need-returns-3
 miscounted c =
     let J = c .before .before in
-    poll-miscounted _ _ _ (start (at J) .pre) (i (at J)) (found (at J)) (sym (over J) ∙ c .before .if1 .left) (rw (k-votes J) at (c .if2 .taken))
+    poll-miscounted _ _ _ (start (at J) .pre) (i (at J)) (found (at J)) (sym (over J) ∙ c .before .if1 .left) (sym (counted J) ∙ c .if2 .taken)
 
 same-length-4 : tie.Need-same-length-4
 same-length-4 c = search needs
@@ -102,7 +100,7 @@ bad-vote c =
     let J = c .before .before .before in
     poll-bad _ _ _ (start (at J) .pre) (i (at J)) (found (at J))
     (sym (over J) ∙ c .before .before .if1 .left)
-    (rw (k-votes J) at (c .before .if2 .left))
+    (sym (counted J) ∙ c .before .if2 .left)
     (sym (J .has-refused .ensures) ∙ c .if3 .taken)
 
 write-poll-requires : tie.Need-write-poll-requires
@@ -118,7 +116,7 @@ taken c =
     rw (c .before .before .write-poll .ensures)
     (poll-taken _ _ _ (start (at J) .pre) (i (at J)) (found (at J))
     (sym (over J) ∙ G .before .before .if1 .left)
-    (rw (k-votes J) at (G .before .if2 .left))
+    (sym (counted J) ∙ G .before .if2 .left)
     (sym (J .has-refused .ensures) ∙ G .if3 .left))
 
 pub poll-spec : {M : Type 1} → statement M
@@ -131,8 +129,7 @@ poll-spec =
     same-length
     absent
     is-polled-requires
-    head-requires
-    wide-requires
+    is-miscounted-requires
     has-refused-requires
     same-length-2
     polled-before

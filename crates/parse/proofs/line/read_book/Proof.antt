@@ -3,7 +3,7 @@ use mathlib.Core.Path.{_≡_, sym, _∙_}
 use native.Mathlib.Omega.{arith}
 use Rattle.parse.specs.declared.command.Command.the-variants.{Bad}
 use Rattle.scan.specs.declared.many.Many.the-variants.{Count, Refused}
-use Rattle.scan.specs.Words.{wordsAfter}
+use Rattle.keyword.specs.Words.{wordsAfter}
 use Rattle.number.specs.Numbers.{shortMost, nameOf, shortOf}
 use Rattle.parse.specs.Line.{alone, bookWords, bookSays}
 use Rattle.number.proofs.Digits.{number-le}

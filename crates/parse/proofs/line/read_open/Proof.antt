@@ -2,7 +2,7 @@
 use mathlib.Core.Path.{refl, sym, ap, _∙_}
 use borrow.Author.Tests.{lt-ltb, le-ltb}
 use Rattle.parse.specs.declared.command.Command.the-variants.{Open}
-use Rattle.scan.specs.Words.{wordsAfter}
+use Rattle.keyword.specs.Words.{wordsAfter}
 use Rattle.number.specs.Numbers.{shortMost}
 use Rattle.scan.specs.Lists.{openMost}
 use Rattle.parse.specs.Line.{settingOf, openSays}

@@ -2,7 +2,7 @@
 use mathlib.Core.Path.{_≡_, sym, _∙_}
 use Rattle.parse.specs.declared.command.Command.the-variants.{Bad}
 use Rattle.scan.specs.declared.many.Many.the-variants.{Count, Refused}
-use Rattle.scan.specs.Words.{wordsAfter}
+use Rattle.keyword.specs.Words.{wordsAfter}
 use Rattle.number.specs.Numbers.{nameOf}
 use Rattle.parse.specs.Line.{alone, pollWords, pollSays}
 use Rattle.parse.proofs.Grammar.{stepped, number-next, number-stop, polled-bad, polled-listed}

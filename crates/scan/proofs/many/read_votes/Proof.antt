@@ -4,7 +4,7 @@ use Prim.Native.Nat.{_-_, _≤_}
 use lib.ListN.{length, length-set}
 use native.Mathlib.Omega.{arith}
 use borrow.Author.Needs.{needs}
-use Rattle.scan.specs.Words.{wordsAfter}
+use Rattle.keyword.specs.Words.{wordsAfter}
 use Rattle.number.specs.Numbers.{voteOf}
 use Rattle.number.proofs.Digits.{vote-lt}
 use Rattle.scan.proofs.Walk.{step-next}

@@ -2,7 +2,7 @@
 use mathlib.Core.Path.{_≡_, ap, _∙_}
 use Prim.Native.Nat.{_+_}
 use native.Mathlib.Omega.{arith}
-use Rattle.scan.specs.Words.{wordEnd}
+use Rattle.keyword.specs.Words.{wordEnd}
 use Rattle.scan.specs.Steps.{endAfter}
 use Rattle.number.proofs.Parts.{rest-lent}
 use Rattle.scan.proofs.Split.{endAfter-le}

@@ -2,8 +2,8 @@
 use native.Mathlib.Omega.{arith}
 use borrow.Author.Needs.{needs}
 use Rattle.laws.proofs.Slots.{slotOf-lt}
-use Rattle.standing.proofs.entry_of.Statement.{statement}
-use Rattle.standing.proofs.entry_of.Tie as tie
+use Rattle.readings.proofs.booking.entry_of.Statement.{statement}
+use Rattle.readings.proofs.booking.entry_of.Tie as tie
 
 slot-of-requires : tie.Need-slot-of-requires
 slot-of-requires c κs = search needs

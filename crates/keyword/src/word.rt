@@ -1,8 +1,8 @@
-// The words of a line.
+// Where the first word of a line ends.
 ghost use mathlib.Core.Path.{_≡_};
-ghost use Rattle.scan.specs.Words.{wordEnd};
+ghost use Rattle.keyword.specs.Words.{wordEnd};
 
-// Where the first word ends: at the first space, or with the line.
+// At the first space, or with the line.
 pub fn word_end(line: &[u8]) -> usize
     ensures { λ r. ⌜ r ≡ wordEnd (now (line .entry)) ⌝ }
 {

@@ -8,9 +8,9 @@ use borrow.Author.Needs.{needs}
 use borrow.Author.Tests.{eq-eqb, ne-eqb}
 use Rattle.loops.proofs.Search.{Searched, search-start, search-hit, search-miss, search-over}
 use Rattle.text.specs.Bytes.{space}
-use Rattle.scan.specs.Words.{wordEnd}
-use Rattle.scan.proofs.word.word_end.Statement.{statement}
-use Rattle.scan.proofs.word.word_end.Tie as tie
+use Rattle.keyword.specs.Words.{wordEnd}
+use Rattle.keyword.proofs.word.word_end.Statement.{statement}
+use Rattle.keyword.proofs.word.word_end.Tie as tie
 
 abbrev Inv-loop : tie.InvT-loop
 Inv-loop line i₀ i-end i = (i ≤ length line) × (i-end ≡ length line) × Searched (λ j. eqb (getD line j 0) space) (length line) i

@@ -1,0 +1,28 @@
+-- Three rules, each of one definition alone: the cases of the table show them on whole ledgers.
+use mathlib.Core.Path.{_≡_, refl, ap}
+use mathlib.Core.Bool.{cond}
+use mathlib.Core.List.{List, [], _∷_}
+use Prim.Native.Nat.{ℕ}
+use native.Mathlib.Omega.{arith}
+use lib.Seq.{set-set}
+use borrow.Author.Tests.{le-ltb}
+use Rattle.loops.specs.Total.{total}
+use Rattle.terms.specs.Votes.{voteOf}
+use Rattle.rules.specs.Layout.{preferredField, confidenceOf, preferredIn, withEntry}
+use Rattle.rules.specs.Ancestry.{mark}
+use Rattle.rules.specs.Poll.{yesVotes, prefer}
+
+-- of two yes and a no, two are yes
+pub yes-counts-alone : yesVotes (1 ∷ 1 ∷ 255 ∷ []) ≡ 2
+unfolding voteOf total
+yes-counts-alone = refl
+
+-- a booking that two paths reach is marked once
+pub marked-once : (p : ℕ) (m : List ℕ) → mark p (mark p m) ≡ mark p m
+marked-once p m = set-set m p 1 1
+
+-- a rival that draws level moves no word
+pub draw-moves-nothing : (s j : ℕ) (w : List ℕ) → confidenceOf w j ≡ confidenceOf w (preferredIn w s) → prefer s j w ≡ w
+unfolding prefer
+draw-moves-nothing s j w level =
+    ap (λ above. cond above (withEntry w s preferredField j) w) (le-ltb (confidenceOf w (preferredIn w s)) (confidenceOf w j) (omega arith))
