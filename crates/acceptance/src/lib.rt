@@ -18,8 +18,8 @@ fn is_unaccepted(w: &[u16], m: &[u8], j: usize, a: usize) -> bool
     requires { ⌜ (length (now w) ≡ size) × (j < mostBookings) × (a < mostParents) ⌝ }
     ensures { λ r. ⌜ r ≡ unaccepted (now (w .entry)) (now (m .entry)) j a ⌝ }
 {
-    let p = ancestry::parent(w, j, a);
-    !((p == words::wide(layout::NONE)) | ancestry::is_member(m, p))
+    let p = words::parent(w, j, a);
+    !((p == words::wide(layout::NONE)) | marks::is_member(m, p))
 }
 
 // The first such place, or how many places there are.
@@ -77,7 +77,7 @@ fn accept_one(w: &[u16], m: &mut [u8], j: usize)
     ensures { λ _. ⌜ now (m .exit) ≡ acceptOne (now (w .entry)) j (now (m .entry)) ⌝ }
 {
     if is_accepted(w, m, j) {
-        ancestry::mark_one(m, j);
+        marks::mark_one(m, j);
     }
 }
 
@@ -108,5 +108,5 @@ pub fn accepted_of(w: &[u16], i: usize) -> bool
 {
     let mut m = [0u8; layout::MOST_BOOKINGS];
     accept_below(w, &mut m, i + 1);
-    ancestry::is_member(&m, i)
+    marks::is_member(&m, i)
 }

@@ -3,35 +3,8 @@ use rules::layout;
 ghost use mathlib.Core.Path.{_≡_};
 ghost use Prim.Native.Nat.{_<_, _≤_};
 ghost use lib.ListN.{length};
-ghost use Rattle.rules.specs.Layout.{size, mostBookings, mostParents, parentOf};
-ghost use Rattle.rules.specs.Ancestry.{isMember, mark, markParents, spread, sweep, unmarked, ancestry};
-
-// Whether j is marked; a number past the end is not.
-pub fn is_member(m: &[u8], j: usize) -> bool
-    ensures { λ r. ⌜ r ≡ isMember (now (m .entry)) j ⌝ }
-{
-    if j < m.len() {
-        return m[j] == 1;
-    }
-    false
-}
-
-// The marks with p marked too; a number past the end marks nothing.
-pub fn mark_one(m: &mut [u8], p: usize)
-    ensures { λ _. ⌜ now (m .exit) ≡ mark p (now (m .entry)) ⌝ }
-{
-    if p < m.len() {
-        m[p] = 1;
-    }
-}
-
-// The parent at place a of booking j, or 65535.
-pub fn parent(w: &[u16], j: usize, a: usize) -> usize
-    requires { ⌜ (length (now w) ≡ size) × (j < mostBookings) × (a < mostParents) ⌝ }
-    ensures { λ r. ⌜ r ≡ parentOf (now (w .entry)) j a ⌝ }
-{
-    words::wide(words::get(w, j, layout::PARENTS + a))
-}
+ghost use Rattle.rules.specs.Layout.{size, mostBookings};
+ghost use Rattle.rules.specs.Ancestry.{markParents, spread, sweep, unmarked, ancestry};
 
 // The marks with the parents of j too.
 fn mark_parents(w: &[u16], m: &mut [u8], j: usize)
@@ -39,7 +12,7 @@ fn mark_parents(w: &[u16], m: &mut [u8], j: usize)
     ensures { λ _. ⌜ now (m .exit) ≡ markParents (now (w .entry)) j (now (m .entry)) ⌝ }
 {
     for a in 0..layout::MOST_PARENTS {
-        mark_one(m, parent(w, j, a));
+        marks::mark_one(m, words::parent(w, j, a));
     }
 }
 
@@ -48,7 +21,7 @@ fn spread_one(w: &[u16], m: &mut [u8], j: usize)
     requires { ⌜ (length (now w) ≡ size) × (j < mostBookings) ⌝ }
     ensures { λ _. ⌜ now (m .exit) ≡ spread (now (w .entry)) j (now (m .entry)) ⌝ }
 {
-    if is_member(m, j) {
+    if marks::is_member(m, j) {
         mark_parents(w, m, j);
     }
 }
@@ -70,6 +43,6 @@ pub fn mark_ancestry(w: &[u16], m: &mut [u8], i: usize)
     requires { ⌜ (length (now w) ≡ size) × (i < mostBookings) × (now m ≡ unmarked) ⌝ }
     ensures { λ _. ⌜ now (m .exit) ≡ ancestry (now (w .entry)) i ⌝ }
 {
-    mark_one(m, i);
+    marks::mark_one(m, i);
     sweep_down(w, m, i + 1);
 }

@@ -33,7 +33,7 @@ fn is_booking_of(w: &[u16], n: usize, s: usize, i: usize) -> bool
     ensures { λ r. ⌜ r ≡ isBookingOf (now (w .entry)) s i ⌝ }
 {
     if i < n {
-        return record::word(w, i, layout::SLOT) == s;
+        return words::word(w, i, layout::SLOT) == s;
     }
     false
 }

@@ -32,7 +32,7 @@ fn row_of(w: &[u16], accepted: &[u8], i: usize) -> [u64; 6]
     let state = words::wide(words::get(w, i, layout::STATE));
     let confidence = words::wide(booking::confidence_of(w, i));
     let preferred = flag(standing::is_preferred(w, i));
-    let is_accepted = flag(ancestry::is_member(accepted, i));
+    let is_accepted = flag(marks::is_member(accepted, i));
     [
         i as u64,
         slot as u64,

@@ -7,8 +7,8 @@ use native.Mathlib.Omega.{arith}
 use lib.Dec.{eqb}
 use lib.ListN.{length, replicate, length-replicate}
 use borrow.Author.Tests.{eqb-true}
-use Rattle.bits.specs.Bits.{bitAt, withBit}
-use Rattle.bits.proofs.Bits.{withBit-length, bitAt-withBit-same, bitAt-withBit-kept}
+use Rattle.marks.specs.Bits.{bitAt, withBit}
+use Rattle.marks.proofs.Bits.{withBit-length, bitAt-withBit-same, bitAt-withBit-kept}
 use Rattle.loops.specs.Search.{any}
 use Rattle.loops.proofs.Search.{any→}
 use Rattle.loops.proofs.Turns.{upTo-zero, upTo-more, upTo-kept, upTo-since}

@@ -4,7 +4,7 @@ use Prim.Native.Nat.{ℕ, _%_}
 use mathlib.Core.Bool.{Bool, _&&_}
 use mathlib.Core.List.{List}
 use lib.ListN.{replicate}
-use Rattle.bits.specs.Bits.{bitAt, withBit}
+use Rattle.marks.specs.Bits.{bitAt, withBit}
 use Rattle.loops.specs.Turns.{upTo}
 use Rattle.rules.specs.Layout.{nameOf}
 

@@ -47,9 +47,9 @@ pub fn enter(w: &[u16], i: usize, filter: &mut [u64]) -> bool
     let name = words::name(w, i);
     let a = first_bit(name);
     let b = second_bit(name);
-    let seen = bits::is_set(filter, a) & bits::is_set(filter, b);
-    bits::set_bit(filter, a);
-    bits::set_bit(filter, b);
+    let seen = marks::is_set(filter, a) & marks::is_set(filter, b);
+    marks::set_bit(filter, a);
+    marks::set_bit(filter, b);
     if seen {
         return look_back(w, i, name);
     }

@@ -22,7 +22,7 @@ fn marked_below(m: &[u8], n: usize) -> usize
 {
     let mut members = 0;
     for j in 0..n {
-        members += bit_of(ancestry::is_member(m, j));
+        members += bit_of(marks::is_member(m, j));
     }
     members
 }

@@ -7,24 +7,8 @@ ghost use Prim.Native.Nat.{_<_};
 ghost use lib.ListN.{length};
 ghost use lib.Dec.{eqb};
 ghost use Rattle.loops.specs.Total.{bit};
-ghost use Rattle.rules.specs.Layout.{size, mostBookings, recordWords, mostParents, field, parentOf, stateOf};
+ghost use Rattle.rules.specs.Layout.{size, mostBookings, stateOf};
 ghost use Rattle.rules.specs.IsSound.{genesisGood, parentsGood, stateGood, recordZero};
-
-// Word f of record i, as a wider number.
-pub fn word(w: &[u16], i: usize, f: usize) -> usize
-    requires { ⌜ (length (now w) ≡ size) × (i < mostBookings) × (f < recordWords) ⌝ }
-    ensures { λ r. ⌜ r ≡ field (now (w .entry)) i f ⌝ }
-{
-    words::wide(words::get(w, i, f))
-}
-
-// The parent of record i at place a.
-fn parent(w: &[u16], i: usize, a: usize) -> usize
-    requires { ⌜ (length (now w) ≡ size) × (i < mostBookings) × (a < mostParents) ⌝ }
-    ensures { λ r. ⌜ r ≡ parentOf (now (w .entry)) i a ⌝ }
-{
-    word(w, i, layout::PARENTS + a)
-}
 
 // What stands at a place with no parent.
 const NO_PARENT: usize = layout::NONE as usize;
@@ -36,10 +20,10 @@ pub fn genesis_good(w: &[u16]) -> bool
 {
     (words::name(w, 0) == 0)
         & (words::get(w, 0, layout::SLOT) == 0)
-        & (parent(w, 0, 0) == NO_PARENT)
-        & (parent(w, 0, 1) == NO_PARENT)
-        & (parent(w, 0, 2) == NO_PARENT)
-        & (parent(w, 0, 3) == NO_PARENT)
+        & (words::parent(w, 0, 0) == NO_PARENT)
+        & (words::parent(w, 0, 1) == NO_PARENT)
+        & (words::parent(w, 0, 2) == NO_PARENT)
+        & (words::parent(w, 0, 3) == NO_PARENT)
         & (words::get(w, 0, layout::STATE) == 1)
         & (words::get(w, 0, layout::ORDINAL) == 0)
 }
@@ -49,10 +33,10 @@ pub fn parents_good(w: &[u16], i: usize) -> bool
     requires { ⌜ (length (now w) ≡ size) × (i < mostBookings) ⌝ }
     ensures { λ r. ⌜ r ≡ parentsGood (now (w .entry)) i ⌝ }
 {
-    let a = parent(w, i, 0);
-    let b = parent(w, i, 1);
-    let c = parent(w, i, 2);
-    let d = parent(w, i, 3);
+    let a = words::parent(w, i, 0);
+    let b = words::parent(w, i, 1);
+    let c = words::parent(w, i, 2);
+    let d = words::parent(w, i, 3);
     !(a == NO_PARENT)
         & (!(b == NO_PARENT) | (c == NO_PARENT))
         & (!(c == NO_PARENT) | (d == NO_PARENT))

@@ -8,8 +8,8 @@ use native.Mathlib.Omega.{arith}
 use lib.Dec.{eqb, leb, ltb}
 use lib.ListN.{length, replicate, length-replicate}
 use borrow.Author.Tests.{leb-true}
-use Rattle.bits.specs.Bits.{bitAt, withBit}
-use Rattle.bits.proofs.Bits.{withBit-length, bitAt-withBit, bitAt-zeros}
+use Rattle.marks.specs.Bits.{bitAt, withBit}
+use Rattle.marks.proofs.Bits.{withBit-length, bitAt-withBit, bitAt-zeros}
 use Rattle.loops.specs.Search.{any, all}
 use Rattle.loops.proofs.Turns.{upTo-zero, upTo-more, upTo-kept}
 use Rattle.rules.specs.Layout.{mostBookings, slots, bookings, polls, slotOf, stateOf, ordinalOf}

@@ -29,14 +29,14 @@ fn booking_good(w: &[u16], i: usize, marks: &[u64], fresh: bool) -> bool
     requires { ⌜ Reached (now w) i (now marks) × (fresh ≡ nameNew (now w) i) ⌝ }
     ensures { λ r. ⌜ r ≡ bookingGood (now (w .entry)) i ⌝ }
 {
-    let s = record::word(w, i, layout::SLOT);
-    let o = record::word(w, i, layout::ORDINAL);
+    let s = words::word(w, i, layout::SLOT);
+    let o = words::word(w, i, layout::ORDINAL);
     fresh
         & (1 <= s)
         & (s < layout::SLOTS)
         & record::parents_good(w, i)
         & record::state_good(w, i)
-        & ((o == 0) | !bits::is_set(marks, o))
+        & ((o == 0) | !marks::is_set(marks, o))
 }
 
 // A record below n, where limit is the number of records in state 2.
@@ -44,7 +44,7 @@ fn record_good(w: &[u16], i: usize, limit: usize, marks: &[u64], fresh: bool) ->
     requires { ⌜ Reached (now w) i (now marks) × (limit ≡ chits (now w)) × (fresh ≡ nameNew (now w) i) ⌝ }
     ensures { λ r. ⌜ r ≡ recordGood (now (w .entry)) i ⌝ }
 {
-    let confidence = record::word(w, i, layout::CONFIDENCE);
+    let confidence = words::word(w, i, layout::CONFIDENCE);
     if i == 0 {
         return record::genesis_good(w) & (confidence <= limit);
     }
@@ -61,8 +61,8 @@ fn bad_record(w: &[u16], n: usize, limit: usize, marks: &mut [u64], filter: &mut
         if !record_good(w, i, limit, marks, fresh) {
             return i;
         }
-        let o = record::word(w, i, layout::ORDINAL);
-        bits::set_bit(marks, o);
+        let o = words::word(w, i, layout::ORDINAL);
+        marks::set_bit(marks, o);
     }
     n
 }

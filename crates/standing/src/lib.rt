@@ -39,7 +39,7 @@ fn is_in_the_way(w: &[u16], m: &[u8], j: usize) -> bool
     requires { ⌜ Ledger (now w) × (j < bookings (now w)) ⌝ }
     ensures { λ r. ⌜ r ≡ inTheWay (now (w .entry)) (now (m .entry)) j ⌝ }
 {
-    ancestry::is_member(m, j) & !is_preferred(w, j)
+    marks::is_member(m, j) & !is_preferred(w, j)
 }
 
 // The lowest such booking, or how many bookings there are.

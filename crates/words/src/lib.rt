@@ -6,6 +6,7 @@ ghost use lib.ListN.{length};
 ghost use Rattle.rules.specs.Layout.{
   size,
   mostBookings,
+  mostParents,
   recordWords,
   slots,
   slotWords,
@@ -17,6 +18,7 @@ ghost use Rattle.rules.specs.Layout.{
   withField,
   withEntry,
   nameOf,
+  parentOf,
 };
 
 // A word as a wider number.
@@ -56,6 +58,14 @@ pub fn get(w: &[u16], i: usize, f: usize) -> u16
     w[layout::HEADER_WORDS + layout::RECORD_WORDS * i + f]
 }
 
+// Word f of record i, as a wider number.
+pub fn word(w: &[u16], i: usize, f: usize) -> usize
+    requires { ⌜ (length (now w) ≡ size) × (i < mostBookings) × (f < recordWords) ⌝ }
+    ensures { λ r. ⌜ r ≡ field (now (w .entry)) i f ⌝ }
+{
+    wide(get(w, i, f))
+}
+
 pub fn set_field(w: &mut [u16], i: usize, f: usize, v: u16)
     requires { ⌜ (length (now w) ≡ size) × (i < mostBookings) × (f < recordWords) ⌝ }
     ensures { λ _. ⌜ now (w .exit) ≡ withField (now (w .entry)) i f v ⌝ }
@@ -90,4 +100,12 @@ pub fn name(w: &[u16], i: usize) -> u64
     let c = wide64(get(w, i, 2));
     let d = wide64(get(w, i, 3));
     ((a * 65536 + b) * 65536 + c) * 65536 + d
+}
+
+// The parent at place a of booking j, or 65535.
+pub fn parent(w: &[u16], j: usize, a: usize) -> usize
+    requires { ⌜ (length (now w) ≡ size) × (j < mostBookings) × (a < mostParents) ⌝ }
+    ensures { λ r. ⌜ r ≡ parentOf (now (w .entry)) j a ⌝ }
+{
+    wide(get(w, j, layout::PARENTS + a))
 }

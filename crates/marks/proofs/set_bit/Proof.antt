@@ -6,9 +6,9 @@ use native.Mathlib.Omega.{arith}
 use lib.Pow.{shl-exact}
 use lib.Seq.{set-out}
 use borrow.Author.Needs.{needs}
-use Rattle.bits.specs.Bits.{withBit}
-use Rattle.bits.proofs.set_bit.Statement.{statement}
-use Rattle.bits.proofs.set_bit.Tie as tie
+use Rattle.marks.specs.Bits.{withBit}
+use Rattle.marks.proofs.set_bit.Statement.{statement}
+use Rattle.marks.proofs.set_bit.Tie as tie
 
 mul-bits : tie.Need-mul-bits
 mul-bits c = search needs

@@ -3,8 +3,8 @@ use mathlib.Core.Path.{sym}
 use native.Mathlib.Omega.{arith}
 use lib.Seq.{set-out}
 use borrow.Author.Needs.{needs}
-use Rattle.ancestry.proofs.mark_one.Statement.{statement}
-use Rattle.ancestry.proofs.mark_one.Tie as tie
+use Rattle.marks.proofs.mark_one.Statement.{statement}
+use Rattle.marks.proofs.mark_one.Tie as tie
 
 slice-write-m : tie.Need-slice-write-m
 slice-write-m c = search needs

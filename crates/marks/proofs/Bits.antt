@@ -13,7 +13,7 @@ use lib.ListN.{length, getD, replicate, length-set, length-replicate, getD-repli
 use lib.Pow.{pow-lt, pow-add, shl-shr, pow-pos}
 use lib.Seq.{getD-set-same, getD-set-other}
 use borrow.Author.Tests.{eq-eqb, ne-eqb}
-use Rattle.bits.specs.Bits.{bitIn, bitAt, withBit}
+use Rattle.marks.specs.Bits.{bitIn, bitAt, withBit}
 
 -- ---- one word
 

@@ -2,10 +2,10 @@
 use mathlib.Core.Path.{sym}
 use native.Mathlib.Omega.{arith}
 use borrow.Author.Needs.{needs}
-use Rattle.bits.specs.Bits.{bitAt}
-use Rattle.bits.proofs.Bits.{bitAt-past}
-use Rattle.bits.proofs.is_set.Statement.{statement}
-use Rattle.bits.proofs.is_set.Tie as tie
+use Rattle.marks.specs.Bits.{bitAt}
+use Rattle.marks.proofs.Bits.{bitAt-past}
+use Rattle.marks.proofs.is_set.Statement.{statement}
+use Rattle.marks.proofs.is_set.Tie as tie
 
 mul-result : tie.Need-mul-result
 mul-result c = search needs
