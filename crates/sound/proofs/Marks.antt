@@ -14,7 +14,7 @@ use Rattle.loops.specs.Search.{any, all}
 use Rattle.loops.proofs.Turns.{upTo-zero, upTo-more, upTo-kept}
 use Rattle.rules.specs.Layout.{mostBookings, slots, bookings, polls, slotOf, stateOf, ordinalOf}
 use Rattle.rules.specs.IsSound.{nameNew, parentsGood, stateGood, bookingGood, ordinalsHeld}
-use Rattle.record.proofs.Few.{any-none}
+use Rattle.rows.proofs.Few.{any-none}
 use Rattle.sound.specs.Ordinals.{markWords, ordinalsBelow}
 use Rattle.sound.proofs.Searches.{any-suc, all-same}
 

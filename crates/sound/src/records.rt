@@ -9,7 +9,7 @@ ghost use Rattle.loops.specs.Search.{first};
 ghost use Rattle.rules.specs.Layout.{mostBookings, bookings, polls};
 ghost use Rattle.rules.specs.IsSound.{chits, nameNew, bookingGood, recordGood, recordsGood, recordZero};
 ghost use Rattle.names.specs.Names.{namesBelow};
-ghost use Rattle.header.specs.Counted.{Counted};
+ghost use Rattle.rows.specs.Counted.{Counted};
 ghost use Rattle.sound.specs.Ordinals.{ordinalsBelow, Reached};
 
 // How many of the n records are in state 2.
@@ -19,7 +19,7 @@ pub(crate) fn chits(w: &[u16], n: usize) -> usize
 {
     let mut found = 0;
     for i in 0..n {
-        found += record::chit(w, i);
+        found += rows::record::chit(w, i);
     }
     found
 }
@@ -34,8 +34,8 @@ fn booking_good(w: &[u16], i: usize, marks: &[u64], fresh: bool) -> bool
     fresh
         & (1 <= s)
         & (s < layout::SLOTS)
-        & record::parents_good(w, i)
-        & record::state_good(w, i)
+        & rows::record::parents_good(w, i)
+        & rows::record::state_good(w, i)
         & ((o == 0) | !marks::is_set(marks, o))
 }
 
@@ -46,7 +46,7 @@ fn record_good(w: &[u16], i: usize, limit: usize, marks: &[u64], fresh: bool) ->
 {
     let confidence = words::word(w, i, layout::CONFIDENCE);
     if i == 0 {
-        return record::genesis_good(w) & (confidence <= limit);
+        return rows::record::genesis_good(w) & (confidence <= limit);
     }
     booking_good(w, i, marks, fresh) & (confidence <= limit)
 }
@@ -73,7 +73,7 @@ fn stray_record(w: &[u16], n: usize) -> usize
     ensures { λ r. ⌜ r ≡ first (λ i. not (ltb i (bookings (now (w .entry))) || recordZero (now (w .entry)) i)) mostBookings ⌝ }
 {
     for i in n..layout::MOST_BOOKINGS {
-        if !record::record_zero(w, i) {
+        if !rows::record::record_zero(w, i) {
             return i;
         }
     }

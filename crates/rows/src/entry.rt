@@ -1,0 +1,62 @@
+// Is a slot entry in order.
+use rules::layout;
+ghost use mathlib.Core.Path.{_≡_};
+ghost use Prim.Native.Nat.{_<_};
+ghost use lib.ListN.{length};
+ghost use Rattle.rules.specs.Layout.{size, slots, slotWords, entry};
+ghost use Rattle.rules.specs.IsSound.{chits, bookingsOf, isBookingOf, entryEmpty, entryHeld, slotGood};
+ghost use Rattle.rows.specs.Counted.{Counted};
+
+// Word f of slot entry s, as a wider number.
+fn word(w: &[u16], s: usize, f: usize) -> usize
+    requires { ⌜ (length (now w) ≡ size) × (s < slots) × (f < slotWords) ⌝ }
+    ensures { λ r. ⌜ r ≡ entry (now (w .entry)) s f ⌝ }
+{
+    words::wide(words::get_entry(w, s, f))
+}
+
+// 65535, 65535, 0, 0.
+fn entry_empty(w: &[u16], s: usize) -> bool
+    requires { ⌜ (length (now w) ≡ size) × (s < slots) ⌝ }
+    ensures { λ r. ⌜ r ≡ entryEmpty (now (w .entry)) s ⌝ }
+{
+    (words::get_entry(w, s, layout::PREFERRED) == layout::NONE)
+        & (words::get_entry(w, s, layout::LAST) == layout::NONE)
+        & (words::get_entry(w, s, layout::COUNTER) == 0)
+        & (words::get_entry(w, s, layout::HELD) == 0)
+}
+
+// i is one of the n bookings, and has slot s.
+fn is_booking_of(w: &[u16], n: usize, s: usize, i: usize) -> bool
+    requires { ⌜ Counted (now w) n ⌝ }
+    ensures { λ r. ⌜ r ≡ isBookingOf (now (w .entry)) s i ⌝ }
+{
+    if i < n {
+        return words::word(w, i, layout::SLOT) == s;
+    }
+    false
+}
+
+// The number of bookings is the true one, preferred and last are bookings of the slot, the counter is within the limit.
+fn entry_held(w: &[u16], n: usize, limit: usize, s: usize, held: usize) -> bool
+    requires { ⌜ Counted (now w) n × (s < slots) ⌝ }
+    requires { ⌜ (limit ≡ chits (now w)) × (held ≡ bookingsOf (now w) s) ⌝ }
+    ensures { λ r. ⌜ r ≡ entryHeld (now (w .entry)) s ⌝ }
+{
+    (word(w, s, layout::HELD) == held)
+        & is_booking_of(w, n, s, word(w, s, layout::PREFERRED))
+        & is_booking_of(w, n, s, word(w, s, layout::LAST))
+        & (word(w, s, layout::COUNTER) <= limit)
+}
+
+// Slot entry s, where held is its true number of bookings and limit the number of records in state 2.
+pub fn slot_good(w: &[u16], n: usize, limit: usize, s: usize, held: usize) -> bool
+    requires { ⌜ Counted (now w) n × (s < slots) ⌝ }
+    requires { ⌜ (limit ≡ chits (now w)) × (held ≡ bookingsOf (now w) s) ⌝ }
+    ensures { λ r. ⌜ r ≡ slotGood (now (w .entry)) s ⌝ }
+{
+    if held == 0 {
+        return entry_empty(w, s);
+    }
+    entry_held(w, n, limit, s, held)
+}
