@@ -1,6 +1,4 @@
 // The parents of a booking: looked up one after another, judged by refusals 7, 8 and 9 in their order, and then written with it.
-use booking::naming;
-use booking::writing;
 use rules::layout;
 use terms::answer::Answer;
 use terms::answer::Found;
@@ -44,7 +42,7 @@ pub fn book_parents(w: &mut [u16], name: u64, slot: u16, parents: &[u64]) -> Ans
     let mut numbers = [layout::NONE; layout::MOST_PARENTS];
     let looked = look_parents(w, parents, &mut numbers);
     let unknown = is_refusal(looked);
-    let twice = naming::has_twice(parents);
+    let twice = writes::naming::has_twice(parents);
     let full = readings::booking::how_many(w) == layout::MOST_BOOKINGS;
     if unknown {
         return looked;
@@ -55,6 +53,6 @@ pub fn book_parents(w: &mut [u16], name: u64, slot: u16, parents: &[u64]) -> Ans
     if full {
         return Answer::Refused(Refusal::Full);
     }
-    writing::write_booking(w, name, slot, &numbers);
+    writes::booking::write_booking(w, name, slot, &numbers);
     Answer::Taken(0)
 }

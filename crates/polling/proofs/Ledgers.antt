@@ -10,9 +10,9 @@ use Rattle.laws.proofs.Slots.{slotOf-lt, preferredIn-lt}
 use Rattle.laws.proofs.Readings.{confidence-le, counter-le}
 use Rattle.laws.proofs.Noted.{length-noted, field-noted-beside, confidence-noted, entry-noted-kept}
 use Rattle.laws.proofs.Raised.{length-raised, field-raised-beside, entry-raised-kept}
-use Rattle.raising.specs.Raising.{Raising}
-use Rattle.settling.specs.Settling.{Settling}
-use Rattle.settling.proofs.Settles.{Moved, moved-settling}
+use Rattle.writes.specs.Raising.{Raising}
+use Rattle.writes.specs.Settling.{Settling}
+use Rattle.writes.proofs.Settles.{Moved, moved-settling}
 
 -- ---- a ledger
 

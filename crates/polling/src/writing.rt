@@ -18,7 +18,7 @@ pub fn write_failure(w: &mut [u16], i: usize)
     requires { ⌜ Ledger (now w) × (i < bookings (now w)) ⌝ }
     ensures { λ _. ⌜ now (w .exit) ≡ failed (now (w .entry)) i ⌝ }
 {
-    raising::note(w, i, FAILED);
+    writes::raising::note(w, i, FAILED);
 }
 
 // The state becomes 2; every member of the marks is raised, and only then each is settled.
@@ -27,7 +27,7 @@ pub fn write_success(w: &mut [u16], marks: &[u8], i: usize)
     ensures { λ _. ⌜ now (w .exit) ≡ succeededWith (now (marks .entry)) (now (w .entry)) i ⌝ }
 {
     let n = words::wide(words::head(w, layout::BOOKINGS));
-    raising::note(w, i, CHIT);
-    raising::raise(w, marks, n);
-    settling::settle(w, marks, n);
+    writes::raising::note(w, i, CHIT);
+    writes::raising::raise(w, marks, n);
+    writes::settling::settle(w, marks, n);
 }

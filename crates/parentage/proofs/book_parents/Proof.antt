@@ -5,8 +5,8 @@ use mathlib.Core.List.{List}
 use Prim.Native.Nat.{ℕ}
 use borrow.Author.Needs.{needs}
 use Rattle.rules.specs.Book.{hasUnknown}
-use Rattle.booking.specs.Numbered.{parentNumbers}
-use Rattle.booking.proofs.Numbers.{bookedWith-numbers}
+use Rattle.writes.specs.Numbered.{parentNumbers}
+use Rattle.writes.proofs.Numbers.{bookedWith-numbers}
 use Rattle.parentage.proofs.Parents.{withNumbers-all, firstUnknown-none, looked-refusal, looked-unknown}
 use Rattle.parentage.proofs.Judged.{parents-unknown, parents-twice, parents-full, parents-taken, not-full}
 use Rattle.parentage.proofs.book_parents.Statement.{statement}

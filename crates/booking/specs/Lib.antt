@@ -1,2 +1,0 @@
--- What a taken booking leaves, for parents that are handed in as numbers.
-pub mod Numbered

@@ -1,2 +1,0 @@
--- What raising leans on.
-pub mod Raising

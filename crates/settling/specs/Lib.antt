@@ -1,2 +1,0 @@
--- What settling leans on.
-pub mod Settling

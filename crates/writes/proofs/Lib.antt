@@ -1,0 +1,7 @@
+-- Laws that the proofs of the functions cite. They assume nothing.
+pub mod Word
+pub mod Begun
+pub mod Rows
+pub mod Numbers
+pub mod Held
+pub mod Settles

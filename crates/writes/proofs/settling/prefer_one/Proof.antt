@@ -1,0 +1,61 @@
+-- The code's comparison is the definition's, of the same two confidences.
+use borrow.Author.Tests.{lt-ltb, le-ltb}
+use borrow.Author.Needs.{needs}
+use Rattle.rules.specs.Poll.{prefer}
+use Rattle.writes.proofs.settling.prefer_one.Statement.{statement}
+use Rattle.writes.proofs.settling.prefer_one.Tie as tie
+
+get-entry-requires : tie.Need-get-entry-requires
+get-entry-requires c κs = search needs
+
+wide-requires : tie.Need-wide-requires
+wide-requires c κs = search needs
+
+get-requires : tie.Need-get-requires
+get-requires c κs = search needs
+
+get-requires-2 : tie.Need-get-requires-2
+get-requires-2 c κs = search needs
+
+cast-set-entry : tie.Need-cast-set-entry
+cast-set-entry c = search needs
+
+set-entry-requires : tie.Need-set-entry-requires
+set-entry-requires c κs = search needs
+
+same-length : tie.Need-same-length
+same-length c = search needs
+
+above : tie.Need-returns
+unfolding prefer
+above c =
+    let I = c .before .before .before .before in
+    let G = I .before .before .before in
+    let P = G .before .before in
+    simp (← P .before .get-entry .ensures, ← P .wide .ensures .0, ← G .get .ensures, ← I .before .get2 .ensures, lt-ltb _ _ (I .if1 .taken))
+    (c .before .before .set-entry .ensures)
+
+same-length-2 : tie.Need-same-length-2
+same-length-2 c = search needs
+
+not-above : tie.Need-returns-2
+unfolding prefer
+not-above c =
+    let G = c .before .before .before in
+    let P = G .before .before in
+    simp (← P .before .get-entry .ensures, ← P .wide .ensures .0, ← G .get .ensures, ← c .before .get2 .ensures, le-ltb _ _ (c .if1 .left))
+
+pub prefer-one-spec : {M : Type 1} → statement M
+prefer-one-spec =
+    tie.close
+    (tie.spec
+    get-entry-requires
+    wide-requires
+    get-requires
+    get-requires-2
+    cast-set-entry
+    set-entry-requires
+    same-length
+    above
+    same-length-2
+    not-above)
