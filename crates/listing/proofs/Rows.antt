@@ -15,7 +15,7 @@ use Rattle.rules.specs.Listing.{listRow}
 use Rattle.laws.proofs.Slots.{slotOf-lt}
 use Rattle.laws.proofs.Readings.{confidence-le}
 use Rattle.put.specs.Put.{Put}
-use Rattle.columns.specs.Columns.{listHeader, rowPrints}
+use Rattle.print.specs.Columns.{listHeader, rowPrints}
 use Rattle.put.proofs.Puts.{put-none, put-then}
 use Rattle.put.proofs.Decimals.{decimal-length}
 use Rattle.listing.specs.Listed.{rowsPrint, listPrints, rowMost, lineMost}

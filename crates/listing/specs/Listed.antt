@@ -4,7 +4,7 @@ use mathlib.Core.List.{List, [], _++_}
 use lib.ListN.{length}
 use Rattle.rules.specs.Layout.{mostBookings, bookings}
 use Rattle.rules.specs.Listing.{listRow}
-use Rattle.columns.specs.Columns.{listHeader, fieldMost, rowPrints}
+use Rattle.print.specs.Columns.{listHeader, fieldMost, rowPrints}
 
 -- the rows of the bookings below n
 unfoldable pub rowsPrint : List ℕ → ℕ → List ℕ

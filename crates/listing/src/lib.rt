@@ -10,7 +10,7 @@ ghost use Rattle.rules.specs.Readings.{acceptedBelow};
 ghost use Rattle.rules.specs.Sound.{Ledger};
 ghost use Rattle.rules.specs.Listing.{listRow};
 ghost use Rattle.put.specs.Put.{Put};
-ghost use Rattle.columns.specs.Columns.{rowPrints};
+ghost use Rattle.print.specs.Columns.{rowPrints};
 ghost use Rattle.listing.specs.Listed.{rowsPrint, listPrints, rowMost, lineMost};
 
 // The most bytes that a listing takes.
@@ -49,7 +49,7 @@ fn put_one(w: &[u16], accepted: &[u8], i: usize, out: &mut [u8], at: usize) -> u
     ensures { λ r. ⌜ Put (now (out .entry)) at (rowPrints (listRow (now (w .entry)) i)) r (now (out .exit)) ⌝ }
 {
     let row = row_of(w, accepted, i);
-    columns::put_row(out, at, &row)
+    print::columns::put_row(out, at, &row)
 }
 
 // The rows of all bookings in rising number.
@@ -71,6 +71,6 @@ pub fn put_list(w: &[u16], out: &mut [u8], at: usize) -> usize
     ensures { λ r. ⌜ Put (now (out .entry)) at (listPrints (now (w .entry))) r (now (out .exit)) ⌝ }
 {
     let accepted = acceptance::accepted_below(w, booking::how_many(w));
-    let next = columns::put_list_header(out, at);
+    let next = print::columns::put_list_header(out, at);
     put_rows(w, &accepted, out, next)
 }

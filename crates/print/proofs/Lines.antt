@@ -3,7 +3,7 @@ use mathlib.Core.Path.{_≡_, refl}
 use mathlib.Core.List.{[], _∷_}
 use Rattle.text.specs.Bytes.{bytes}
 use Rattle.put.specs.Decimal.{digitsOf, decimal}
-use Rattle.columns.specs.Columns.{rowPrints}
+use Rattle.print.specs.Columns.{rowPrints}
 
 rows :
     (rowPrints (0 ∷ 0 ∷ 1 ∷ 3 ∷ 1 ∷ 1 ∷ []) ≡ bytes "0 0 1 3 1 1\n")

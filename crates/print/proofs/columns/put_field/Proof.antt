@@ -3,8 +3,8 @@ use native.Mathlib.Omega.{arith}
 use borrow.Author.Needs.{needs}
 use Rattle.put.proofs.Puts.{put-one, put-then}
 use Rattle.put.proofs.Decimals.{decimal-length}
-use Rattle.columns.proofs.put_field.Statement.{statement}
-use Rattle.columns.proofs.put_field.Tie as tie
+use Rattle.print.proofs.columns.put_field.Statement.{statement}
+use Rattle.print.proofs.columns.put_field.Tie as tie
 
 put-number-requires : tie.Need-put-number-requires
 put-number-requires c κs = let S = c .before .before in omega (arith, decimal-length (S .args .v) (S .fits .v .fits))

@@ -6,7 +6,7 @@ ghost use mathlib.Core.Path.{_≡_};
 ghost use Prim.Native.Nat.{_+_, _*_, _<_, _≤_};
 ghost use lib.ListN.{length};
 ghost use Rattle.put.specs.Put.{Put, Room};
-ghost use Rattle.columns.specs.Columns.{
+ghost use Rattle.print.specs.Columns.{
   endAt,
   field,
   fieldMost,

@@ -1,8 +1,8 @@
 -- A line feed follows the last field, a space any other.
 use borrow.Author.Needs.{needs}
 use borrow.Author.Tests.{lt-ltb, le-ltb}
-use Rattle.columns.proofs.end_of.Statement.{statement}
-use Rattle.columns.proofs.end_of.Tie as tie
+use Rattle.print.proofs.columns.end_of.Statement.{statement}
+use Rattle.print.proofs.columns.end_of.Tie as tie
 
 add-if1 : tie.Need-add-if1
 add-if1 c = search needs

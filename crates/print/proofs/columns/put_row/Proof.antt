@@ -4,10 +4,10 @@ use Prim.Native.Nat.{_+_, _-_, _*_, _≤_}
 use lib.ListN.{length, getD}
 use native.Mathlib.Omega.{arith}
 use borrow.Author.Needs.{needs}
-use Rattle.columns.specs.Columns.{fieldMost}
-use Rattle.columns.proofs.Rows.{RowLeft, row-start, row-more, row-over, field-length}
-use Rattle.columns.proofs.put_row.Statement.{statement}
-use Rattle.columns.proofs.put_row.Tie as tie
+use Rattle.print.specs.Columns.{fieldMost}
+use Rattle.print.proofs.Rows.{RowLeft, row-start, row-more, row-over, field-length}
+use Rattle.print.proofs.columns.put_row.Statement.{statement}
+use Rattle.print.proofs.columns.put_row.Tie as tie
 
 abbrev Inv-loop : tie.InvT-loop
 Inv-loop out₀ at fields next₀ j₀ j-end out next j =

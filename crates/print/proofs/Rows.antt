@@ -9,7 +9,7 @@ use lib.ListN.{length, getD, drop, length-append, drop-of-length-le}
 use lib.Seq.{drop-cons}
 use borrow.Author.Tests.{lt-ltb, le-ltb}
 use Rattle.put.specs.Put.{Put}
-use Rattle.columns.specs.Columns.{field, fieldMost, endOf, endAt, rowPrints}
+use Rattle.print.specs.Columns.{field, fieldMost, endOf, endAt, rowPrints}
 use Rattle.put.proofs.Puts.{put-then, put-none}
 use Rattle.put.proofs.Decimals.{decimal-length}
 

@@ -1,7 +1,7 @@
 -- The bytes of the code are those of the definition.
 use borrow.Author.Needs.{needs}
-use Rattle.columns.proofs.put_list_header.Statement.{statement}
-use Rattle.columns.proofs.put_list_header.Tie as tie
+use Rattle.print.proofs.columns.put_list_header.Statement.{statement}
+use Rattle.print.proofs.columns.put_list_header.Tie as tie
 
 slice-aggregate-put-text : tie.Need-slice-aggregate-put-text
 slice-aggregate-put-text c = search needs

@@ -1,3 +1,0 @@
--- Laws of the definitions in specs/, cited by the proofs of the functions. They assume nothing.
-pub mod Rows
-pub mod Cases

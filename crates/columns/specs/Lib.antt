@@ -1,2 +1,0 @@
--- What the listing's lines are.
-pub mod Columns
