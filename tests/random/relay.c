@@ -30,7 +30,7 @@ struct told {
 /* Words on each side of the lent ones, which no call may write. */
 #define GUARD 256
 
-/* Differs from word to word, and from all that a ledger writes. */
+/* Differs from word to word. */
 static uint16_t guard_word(size_t at)
 {
     return (uint16_t)(0xa500u ^ (at * 40503u));
@@ -128,7 +128,10 @@ static void serve(const struct asked *asked)
 int main(void)
 {
     struct asked asked;
-    while (fread(&asked, sizeof asked, 1, stdin) == 1)
+    size_t got;
+    while ((got = fread(&asked, 1, sizeof asked, stdin)) == sizeof asked)
         serve(&asked);
+    if (got != 0)
+        give_up("a request is cut off");
     return 0;
 }

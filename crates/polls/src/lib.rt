@@ -53,7 +53,7 @@ fn is_polled(w: &[u16], i: usize) -> bool
     }
 }
 
-// There are not as many votes as stations are asked.
+// The number of votes isn't k.
 fn is_miscounted(w: &[u16], count: usize) -> bool
     requires { ⌜ length (now w) ≡ size ⌝ }
     ensures { λ r. ⌜ r ≡ not (eqb count (settingIn (now (w .entry)) .k)) ⌝ }

@@ -1,4 +1,4 @@
--- The cases of document 01, computed from the definitions in specs/.
+-- The cases of document 01, computed from the definitions in specs/, and rules of single definitions.
 pub mod Same
 pub mod Walk
 pub mod Rules

@@ -1,4 +1,4 @@
--- Three rules, each of one definition alone: the cases of the table show them on whole ledgers.
+-- Two rules and a case, each of one definition alone. The table of cases shows them on whole ledgers.
 use mathlib.Core.Path.{_≡_, refl, ap}
 use mathlib.Core.Bool.{cond}
 use mathlib.Core.List.{List, [], _∷_}

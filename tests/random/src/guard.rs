@@ -2,7 +2,7 @@
 
 /// Guard words on each side.
 const GUARD: usize = 256;
-/// Differs from word to word, and from all that a ledger writes.
+/// Differs from word to word.
 fn guard_word(at: usize) -> u16 {
     0xa500 ^ (at as u16).wrapping_mul(40503)
 }

@@ -81,7 +81,10 @@ impl Order {
             "consoles" => self.consoles(),
             "calls" if self.is_copy => self.calls(&Planted(None)),
             "calls" => match &self.ours {
-                Some(program) => self.calls(&relay(program)?),
+                Some(program) => {
+                    let relay = relay(program)?;
+                    self.calls(&relay).and_then(|()| relay.end())
+                }
                 None => self.calls(station()?),
             },
             _ => self.plant(),

@@ -5,13 +5,16 @@ use crate::call::{Call, Face};
 use second::words::Answer;
 use std::cell::RefCell;
 use std::io::{self, Read, Write};
-use std::process::{ChildStdin, ChildStdout, Command, Stdio};
+use std::process::{Child, ChildStdin, ChildStdout, Command, Stdio};
 
 /// Told of a call that wrote beside the lent words. No call gives it.
 pub const WROTE_OUTSIDE: u32 = u32::MAX;
 
 /// A running `relay.c`.
-pub struct Relay(RefCell<(ChildStdin, ChildStdout)>);
+pub struct Relay {
+    child: Child,
+    pipes: RefCell<(ChildStdin, ChildStdout)>,
+}
 
 impl Relay {
     pub fn start(program: &str) -> io::Result<Relay> {
@@ -21,11 +24,23 @@ impl Relay {
             .spawn()?;
         let stdin = child.stdin.take().expect("it was asked for");
         let stdout = child.stdout.take().expect("it was asked for");
-        Ok(Relay(RefCell::new((stdin, stdout))))
+        let pipes = RefCell::new((stdin, stdout));
+        Ok(Relay { child, pipes })
+    }
+
+    /// Ends it, as the end of its input asks; a request that it did not
+    /// understand shows in how it ends.
+    pub fn end(mut self) -> Result<(), String> {
+        drop(self.pipes);
+        match self.child.wait() {
+            Ok(status) if status.success() => Ok(()),
+            Ok(status) => Err(format!("the relay ended with {status}")),
+            Err(error) => Err(format!("the relay did not end: {error}")),
+        }
     }
 
     fn ask(&self, ws: &mut [u16], call: &Call) -> io::Result<Answer> {
-        let (stdin, stdout) = &mut *self.0.borrow_mut();
+        let (stdin, stdout) = &mut *self.pipes.borrow_mut();
         stdin.write_all(&request(ws, call))?;
         let mut told = [[0; 8]; 3];
         for number in &mut told {
