@@ -29,7 +29,7 @@ fn row_of(w: &[u16], accepted: &[u8], i: usize) -> [u64; 6]
     ensures { λ r. ⌜ r ≡ listRow (now (w .entry)) i ⌝ }
 {
     let slot = booking::slot_of(w, i);
-    let state = words::wide(words::get(w, i, layout::STATE));
+    let state = words::word(w, i, layout::STATE);
     let confidence = words::wide(booking::confidence_of(w, i));
     let preferred = flag(standing::is_preferred(w, i));
     let is_accepted = flag(marks::is_member(accepted, i));

@@ -43,7 +43,7 @@ pub fn slot_of(w: &[u16], i: usize) -> usize
     requires { ⌜ (length (now w) ≡ size) × (i < mostBookings) ⌝ }
     ensures { λ r. ⌜ r ≡ slotOf (now (w .entry)) i ⌝ }
 {
-    words::wide(words::get(w, i, layout::SLOT))
+    words::word(w, i, layout::SLOT)
 }
 
 // The confidence of booking i.

@@ -41,7 +41,7 @@ fn settle_one(w: &mut [u16], marks: &[u8], j: usize)
     ensures { λ _. ⌜ now (w .exit) ≡ settleOne (now (marks .entry)) j (now (w .entry)) ⌝ }
 {
     if marks[j] == 1 {
-        let s = words::wide(words::get(w, j, layout::SLOT));
+        let s = words::word(w, j, layout::SLOT);
         prefer_one(w, s, j);
         follow_one(w, s, j);
     }

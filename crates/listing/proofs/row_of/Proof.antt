@@ -9,17 +9,14 @@ use Rattle.listing.proofs.row_of.Tie as tie
 slot-of-requires : tie.Need-slot-of-requires
 slot-of-requires c κs = search needs
 
-get-requires : tie.Need-get-requires
-get-requires c κs = search needs
-
-wide-requires : tie.Need-wide-requires
-wide-requires c κs = search needs
+word-requires : tie.Need-word-requires
+word-requires c κs = search needs
 
 confidence-of-requires : tie.Need-confidence-of-requires
 confidence-of-requires c κs = search needs
 
-wide-requires-2 : tie.Need-wide-requires-2
-wide-requires-2 c κs = search needs
+wide-requires : tie.Need-wide-requires
+wide-requires c κs = search needs
 
 is-preferred-requires : tie.Need-is-preferred-requires
 is-preferred-requires c κs = search needs
@@ -38,7 +35,7 @@ unfolding listRow
 returns c =
     let P = c .before .before .before in
     let C = P .before .before in
-    let G = C .before .before in
+    let G = C .before in
     let S = G .before .before .before .before in
     let w = S .args .w .now in
     rw (
@@ -48,10 +45,9 @@ returns c =
       acceptedBelow-is w (bookings w) (S .args .i) (S .pre .1),
       c .before .before .flag .ensures,
       P .is-preferred .ensures,
-      P .before .wide2 .ensures .0,
+      P .before .wide .ensures .0,
       C .confidence-of .ensures,
-      C .before .wide .ensures .0,
-      G .get .ensures,
+      G .word .ensures,
       G .before .slot-of .ensures,
     )
 
@@ -60,10 +56,9 @@ row-of-spec =
     tie.close
     (tie.spec
     slot-of-requires
-    get-requires
-    wide-requires
+    word-requires
     confidence-of-requires
-    wide-requires-2
+    wide-requires
     is-preferred-requires
     flag-requires
     is-member-requires
