@@ -1,5 +1,5 @@
 // Which bookings are accepted.
-use readings::booking;
+use booking_reads::booking;
 use rules::layout;
 ghost use mathlib.Core.Path.{_≡_};
 ghost use mathlib.Core.Bool.{_||_};
@@ -19,7 +19,7 @@ fn is_unaccepted(w: &[u16], m: &[u8], j: usize, a: usize) -> bool
     ensures { λ r. ⌜ r ≡ unaccepted (now (w .entry)) (now (m .entry)) j a ⌝ }
 {
     let p = words::parent(w, j, a);
-    !((p == words::wide(layout::NONE)) | marks::is_member(m, p))
+    !((p == words::wide(layout::NONE)) | bits::is_member(m, p))
 }
 
 // The first such place, or how many places there are.
@@ -50,7 +50,7 @@ fn first_arm(w: &[u16], m: &[u8], j: usize) -> bool
 {
     parents_accepted(w, m, j)
         & (booking::entry_of(w, j, layout::HELD) == 1)
-        & (words::head(w, layout::BETA1) < booking::entry_of(w, j, layout::COUNTER))
+        & (words::header(w, layout::BETA1) < booking::entry_of(w, j, layout::COUNTER))
 }
 
 // The booking is both preferred and last in its slot, and the counter is above beta2: only one of two rivals is.
@@ -58,9 +58,9 @@ fn second_arm(w: &[u16], j: usize) -> bool
     requires { ⌜ Ledger (now w) × (j < bookings (now w)) ⌝ }
     ensures { λ r. ⌜ r ≡ secondArm (now (w .entry)) j ⌝ }
 {
-    standing::is_preferred(w, j)
-        & standing::is_last(w, j)
-        & (words::head(w, layout::BETA2) < booking::entry_of(w, j, layout::COUNTER))
+    preference::is_preferred(w, j)
+        & preference::is_last(w, j)
+        & (words::header(w, layout::BETA2) < booking::entry_of(w, j, layout::COUNTER))
 }
 
 // The genesis, or by one of the arms.
@@ -77,7 +77,7 @@ fn accept_one(w: &[u16], m: &mut [u8], j: usize)
     ensures { λ _. ⌜ now (m .exit) ≡ acceptOne (now (w .entry)) j (now (m .entry)) ⌝ }
 {
     if is_accepted(w, m, j) {
-        marks::mark_one(m, j);
+        bits::mark_one(m, j);
     }
 }
 
@@ -108,5 +108,5 @@ pub fn accepted_of(w: &[u16], i: usize) -> bool
 {
     let mut m = [0u8; layout::MOST_BOOKINGS];
     accept_below(w, &mut m, i + 1);
-    marks::is_member(&m, i)
+    bits::is_member(&m, i)
 }

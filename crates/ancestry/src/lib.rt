@@ -12,7 +12,7 @@ fn mark_parents(w: &[u16], m: &mut [u8], j: usize)
     ensures { λ _. ⌜ now (m .exit) ≡ markParents (now (w .entry)) j (now (m .entry)) ⌝ }
 {
     for a in 0..layout::MOST_PARENTS {
-        marks::mark_one(m, words::parent(w, j, a));
+        bits::mark_one(m, words::parent(w, j, a));
     }
 }
 
@@ -21,7 +21,7 @@ fn spread_one(w: &[u16], m: &mut [u8], j: usize)
     requires { ⌜ (length (now w) ≡ size) × (j < mostBookings) ⌝ }
     ensures { λ _. ⌜ now (m .exit) ≡ spread (now (w .entry)) j (now (m .entry)) ⌝ }
 {
-    if marks::is_member(m, j) {
+    if bits::is_member(m, j) {
         mark_parents(w, m, j);
     }
 }
@@ -43,6 +43,6 @@ pub fn mark_ancestry(w: &[u16], m: &mut [u8], i: usize)
     requires { ⌜ (length (now w) ≡ size) × (i < mostBookings) × (now m ≡ unmarked) ⌝ }
     ensures { λ _. ⌜ now (m .exit) ≡ ancestry (now (w .entry)) i ⌝ }
 {
-    marks::mark_one(m, i);
+    bits::mark_one(m, i);
     sweep_down(w, m, i + 1);
 }

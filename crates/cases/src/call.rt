@@ -1,6 +1,6 @@
 // A call in the words of the text program, made through the public calls.
 use crate::Done;
-use parse::command::Command;
+use line_parse::command::Command;
 use terms::answer::Answer;
 use terms::answer::Reading;
 
@@ -43,7 +43,7 @@ fn poll(w: &mut [u16], name: u64, votes: &[u8; 64], count: usize) -> Done {
 pub(crate) fn call(line: &[u8], w: &mut [u16]) -> Done {
     let mut parents = [0u64; 16];
     let mut votes = [0u8; 64];
-    match parse::parse(line, &mut parents, &mut votes) {
+    match line_parse::parse(line, &mut parents, &mut votes) {
         Command::Open(s) => Done::Gave(ledger::open(w, s)),
         Command::Book { name, slot, count } => book(w, name, slot, &parents, count),
         Command::Poll { name, count } => poll(w, name, &votes, count),

@@ -9,9 +9,9 @@ const MOST: u64 = 65535;
 // The numbers after the first word of a line, and zeros.
 fn numbers(line: &[u8]) -> [u64; 3] {
     let mut ns = [0u64; 3];
-    let end = keyword::word::word_end(line);
+    let end = line_words::word_end(line);
     if end <= line.len() {
-        scan::many::read_numbers(line, end, MOST, &mut ns);
+        line_scan::many::read_numbers(line, end, MOST, &mut ns);
     }
     ns
 }

@@ -16,8 +16,8 @@ mod change;
 mod many;
 mod show;
 
+use line_scan::step::Step;
 use rules::layout;
-use scan::step::Step;
 use terms::answer::Answer;
 ghost use Prim.Native.Nat.{_≤_};
 ghost use lib.ListN.{length};
@@ -84,8 +84,8 @@ fn tell(line: &[u8], first: u8, w: &mut Words, lent: usize) {
 
 // `words n`.
 fn lend(line: &[u8]) -> usize {
-    let end = keyword::word::word_end(line);
-    let Step::Next(n, _) = scan::step::next_number(line, end, LONG as u64) else {
+    let end = line_words::word_end(line);
+    let Step::Next(n, _) = line_scan::step::next_number(line, end, LONG as u64) else {
         return 0;
     };
     n as usize

@@ -16,7 +16,7 @@ fn start(bytes: &[u8], n: usize) {
 // A value, which may be below zero, and the end of the line.
 fn value(v: i64) {
     let mut out = [0u8; 32];
-    let end = print::put_reading(&mut out, 0, Answer::Taken(v));
+    let end = text_print::put_reading(&mut out, 0, Answer::Taken(v));
     start(&out, end);
 }
 

@@ -4,7 +4,7 @@ use mathlib.Core.Path.{_≡_}
 use mathlib.Core.List.{List}
 use mathlib.Core.Logic.{_≢_}
 use lib.ListN.{length, getD}
-use Rattle.text.specs.Bytes.{lineFeed}
+use Rattle.text_bytes.specs.Bytes.{lineFeed}
 
 -- no byte of the line is a line feed, and one follows unless the input ends there
 pub record LineEnd (input : List ℕ) (start end : ℕ) : Type 0 where

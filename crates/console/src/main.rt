@@ -1,10 +1,10 @@
 // The program: reads standard input, serves its lines in turn, and writes what they print in large pieces.
-use listing::LINE_MOST;
 use rules::layout;
+use text_listing::LINE_MOST;
 ghost use mathlib.Core.Path.{_≡_};
 ghost use Prim.Native.Nat.{_+_, _≤_};
 ghost use lib.ListN.{length};
-ghost use Rattle.listing.specs.Listed.{lineMost};
+ghost use Rattle.text_listing.specs.Listed.{lineMost};
 ghost use Rattle.console.specs.Lines.{LineEnd, gathered};
 
 // The longest input that is taken.
@@ -50,7 +50,7 @@ fn serve_lines(input: &[u8]) {
     let mut start = 0;
     while start < input.len() {
         let end = line_end(input, start);
-        let served = desk::serve(&mut w, known, &input[start..end], &mut out, at);
+        let served = line_serve::serve(&mut w, known, &input[start..end], &mut out, at);
         known = served.known;
         at = make_room(&out, served.at);
         start = end + 1;
@@ -60,7 +60,7 @@ fn serve_lines(input: &[u8]) {
 
 fn say_too_long() {
     let mut out = [0u8; 32];
-    let at = print::put_too_long(&mut out, 0);
+    let at = text_print::put_too_long(&mut out, 0);
     io::write_all(1, &out[..at]);
 }
 

@@ -1,15 +1,15 @@
 // THE PUBLIC CALLS. Each takes any lent words and any arguments, needs no check first, and settles answer and words by the law.
 // The readings stand in `reads` and are passed on.
-pub use reads::accepted;
-pub use reads::confidence;
-pub use reads::lead;
-pub use reads::query;
-pub use reads::size;
+pub use ledger_reads::accepted;
+pub use ledger_reads::confidence;
+pub use ledger_reads::lead;
+pub use ledger_reads::query;
+pub use ledger_reads::size;
+use ledger_test::Tested;
 use rules::layout;
 use terms::answer::Answer;
 use terms::answer::Refusal;
 use terms::setting::Setting;
-use tested::Tested;
 ghost use mathlib.Core.Path.{_≡_};
 ghost use Rattle.terms.specs.Answers.{outcome};
 ghost use Rattle.rules.specs.Calls.{openCall, bookCall, pollCall};
@@ -33,9 +33,9 @@ pub fn open(w: &mut [u16], s: Setting) -> Answer
 pub fn book(w: &mut [u16], name: u64, slot: u16, parents: &[u64]) -> Answer
     ensures { λ r. ⌜ outcome r (now (w .exit)) ≡ bookCall (now (w .entry)) name slot (now (parents .entry)) ⌝ }
 {
-    match tested::test(w) {
+    match ledger_test::test(w) {
         Tested::Stop(refusal) => Answer::Refused(refusal),
-        Tested::Fine => books::book(w, name, slot, parents),
+        Tested::Fine => known_book::book(w, name, slot, parents),
     }
 }
 
@@ -43,8 +43,8 @@ pub fn book(w: &mut [u16], name: u64, slot: u16, parents: &[u64]) -> Answer
 pub fn poll(w: &mut [u16], name: u64, votes: &[u8]) -> Answer
     ensures { λ r. ⌜ outcome r (now (w .exit)) ≡ pollCall (now (w .entry)) name (now (votes .entry)) ⌝ }
 {
-    match tested::test(w) {
+    match ledger_test::test(w) {
         Tested::Stop(refusal) => Answer::Refused(refusal),
-        Tested::Fine => polls::poll(w, name, votes),
+        Tested::Fine => known_poll::poll(w, name, votes),
     }
 }

@@ -18,10 +18,10 @@ use Rattle.rules.specs.Readings.{acceptedOf}
 use Rattle.rules.specs.Book.{lookUp, numberOf}
 use Rattle.rules.specs.Calls.{acceptedCall}
 use Rattle.rules.specs.Sound.{Sound, Ledger}
-use Rattle.laws.proofs.Lookup.{found-is}
+use Rattle.rule_laws.proofs.Lookup.{found-is}
 use Rattle.rules.specs.Told.{FirstArm, SecondArm}
-use Rattle.laws.proofs.Slots.{slot-held}
-use Rattle.laws.proofs.Accepted.{accepted-is}
+use Rattle.rule_laws.proofs.Slots.{slot-held}
+use Rattle.rule_laws.proofs.Accepted.{accepted-is}
 use Rattle.promises.specs.Acceptance.{AcceptedOnce, AcceptedCallOnce}
 use Rattle.promises.proofs.Taken.{reading-taken}
 

@@ -20,7 +20,7 @@ use Rattle.rules.specs.Layout.{
 }
 use Rattle.rules.specs.Sound.{Sound, Ledger}
 use Rattle.rules.specs.Book.{booked}
-use Rattle.laws.proofs.Slots.{bookingsOf-some, slotOf-lt, preferredIn-lt}
+use Rattle.rule_laws.proofs.Slots.{bookingsOf-some, slotOf-lt, preferredIn-lt}
 use Rattle.promises.specs.Lasting.{Grown}
 use Rattle.promises.proofs.Taken.{Bookable, Led}
 use Rattle.promises.proofs.BookedWords.{

@@ -31,7 +31,7 @@ use Rattle.rules.specs.Layout.{
 use Rattle.rules.specs.IsSound.{chits, bookingsOf}
 use Rattle.rules.specs.Sound.{Booking, Ledger}
 use Rattle.rules.specs.Book.{numberOf, parentFound, newRecord, booked}
-use Rattle.laws.proofs.Lookup.{parent-found, parent-below, found-name}
+use Rattle.rule_laws.proofs.Lookup.{parent-found, parent-below, found-name}
 use Rattle.promises.proofs.Taken.{Bookable}
 use Rattle.promises.proofs.Unchanged.{Booking-kept}
 use Rattle.promises.proofs.BookedWords.{

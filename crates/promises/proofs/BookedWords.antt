@@ -38,8 +38,8 @@ use Rattle.rules.specs.Layout.{
   heldIn,
 }
 use Rattle.rules.specs.Book.{parentNumber, newRecord, entered, booked}
-use Rattle.laws.proofs.Bookings.{at-place}
-use Rattle.laws.proofs.Words.{
+use Rattle.rule_laws.proofs.Bookings.{at-place}
+use Rattle.rule_laws.proofs.Words.{
   length-withHeader,
   header-withHeader-same,
   header-withHeader-other,

@@ -11,7 +11,7 @@ use lib.Dec.{eqb}
 use borrow.Author.Tests.{eq-eqb, ne-eqb}
 use Rattle.rules.specs.Layout.{headerWords, recordWords, slotWords, mostBookings, slotAt, header, field, entry, heldField, heldIn, withEntry}
 use Rattle.rules.specs.Book.{entered}
-use Rattle.laws.proofs.Words.{
+use Rattle.rule_laws.proofs.Words.{
   length-withEntry,
   header-withEntry-kept,
   field-withEntry-kept,

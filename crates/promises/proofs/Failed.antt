@@ -6,8 +6,8 @@ use native.Mathlib.Omega.{arith}
 use Rattle.rules.specs.Layout.{entry, bookings, slotField, preferredField, lastField, counterField, heldField, slotOf, confidenceOf, preferredIn}
 use Rattle.rules.specs.Sound.{Ledger}
 use Rattle.rules.specs.Poll.{failed}
-use Rattle.laws.proofs.Slots.{booking-lt}
-use Rattle.laws.proofs.Noted.{confidence-noted, entry-noted-kept}
+use Rattle.rule_laws.proofs.Slots.{booking-lt}
+use Rattle.rule_laws.proofs.Noted.{confidence-noted, entry-noted-kept}
 use Rattle.promises.proofs.Taken.{Led}
 use Rattle.promises.proofs.Noted.{Noted, noted-Noted, Noted-bookings}
 use Rattle.promises.proofs.PolledSound.{Gained}

@@ -11,7 +11,7 @@ use Rattle.rules.specs.Layout.{bookings}
 use Rattle.rules.specs.Ancestry.{Parent, Reaches, self, up, ancestry, isMember}
 use Rattle.rules.specs.Readings.{sizeOf}
 use Rattle.rules.specs.Sound.{Ledger}
-use Rattle.laws.proofs.Ancestry.{ancestry-kept, member-le, Reaches-le}
+use Rattle.rule_laws.proofs.Ancestry.{ancestry-kept, member-le, Reaches-le}
 use Rattle.promises.specs.Lasting.{Grown}
 use Rattle.promises.specs.Confidence.{Counted, none, counts, passes, sizes}
 

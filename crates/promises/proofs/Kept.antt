@@ -7,7 +7,7 @@ use Rattle.terms.specs.declared.setting.Setting.{Setting}
 use Rattle.rules.specs.Book.{lookUp, numberOf}
 use Rattle.rules.specs.Calls.{openCall, bookCall, pollCall}
 use Rattle.rules.specs.Sound.{Ledger}
-use Rattle.laws.proofs.Opened.{opened-ledger}
+use Rattle.rule_laws.proofs.Opened.{opened-ledger}
 use Rattle.promises.specs.Run.{Call, Open, Book, Poll, Query, Accepted, Lead, Confidence, Size, outcomeOf, isTaken}
 use Rattle.promises.specs.Soundness.{OpenedSound, SoundKept}
 use Rattle.promises.specs.Lasting.{Grown, opens, BookingsLast, AncestryLasts}

@@ -26,8 +26,8 @@ use Rattle.rules.specs.Layout.{
   ordinalOf,
 }
 use Rattle.rules.specs.Poll.{noted}
-use Rattle.laws.proofs.Words.{nameOf-kept}
-use Rattle.laws.proofs.Noted.{
+use Rattle.rule_laws.proofs.Words.{nameOf-kept}
+use Rattle.rule_laws.proofs.Noted.{
   length-noted,
   polls-noted,
   header-noted-other,

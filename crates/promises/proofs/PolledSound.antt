@@ -31,7 +31,7 @@ use Rattle.rules.specs.Layout.{
 }
 use Rattle.rules.specs.IsSound.{chits, bookingsOf}
 use Rattle.rules.specs.Sound.{Sound, Booking, BookingOf, EmptyEntry, HeldEntry}
-use Rattle.laws.proofs.Words.{settingIn-kept}
+use Rattle.rule_laws.proofs.Words.{settingIn-kept}
 use Rattle.promises.specs.Lasting.{Grown}
 use Rattle.promises.proofs.Taken.{Pollable}
 use Rattle.promises.proofs.Unchanged.{Booking-told, Booking-kept, EmptyEntry-kept}

@@ -15,9 +15,9 @@ use Rattle.rules.specs.Readings.{queryOf, acceptedOf, leadOf, sizeOf}
 use Rattle.rules.specs.Book.{lookUp, numberOf}
 use Rattle.rules.specs.Calls.{readingCall, queryCall, acceptedCall, leadCall, confidenceCall, sizeCall}
 use Rattle.rules.specs.Sound.{Ledger}
-use Rattle.laws.proofs.Calls.{refusalNumber-within, number-refused, value-refused}
-use Rattle.laws.proofs.Lookup.{found-below}
-use Rattle.laws.proofs.Readings.{query-le, accepted-le, confidence-le, lead-le, size-least, size-most}
+use Rattle.rule_laws.proofs.Calls.{refusalNumber-within, number-refused, value-refused}
+use Rattle.rule_laws.proofs.Lookup.{found-below}
+use Rattle.rule_laws.proofs.Readings.{query-le, accepted-le, confidence-le, lead-le, size-least, size-most}
 use Rattle.promises.specs.Run.{outcomeOf}
 use Rattle.promises.specs.Ranges.{Between, Ranges}
 use Rattle.promises.proofs.Taken.{reading-taken}

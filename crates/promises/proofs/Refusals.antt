@@ -48,10 +48,10 @@ use Rattle.rules.specs.Calls.{
   confidenceCall,
   sizeCall,
 }
-use Rattle.laws.proofs.Calls.{value-refused, open-refused, book-refused, poll-refused}
-use Rattle.laws.proofs.Good.{isGood→Good, Good→isGood}
-use Rattle.laws.proofs.Sound.{isSound→Sound, Sound→isSound}
-use Rattle.laws.proofs.Lookup.{found-below, found-name, absent-name, found-is}
+use Rattle.rule_laws.proofs.Calls.{value-refused, open-refused, book-refused, poll-refused}
+use Rattle.rule_laws.proofs.Good.{isGood→Good, Good→isGood}
+use Rattle.rule_laws.proofs.Sound.{isSound→Sound, Sound→isSound}
+use Rattle.rule_laws.proofs.Lookup.{found-below, found-name, absent-name, found-is}
 use Rattle.promises.specs.Run.{Open, Book, Poll, Query, Accepted, Lead, Confidence, Size, outcomeOf}
 use Rattle.promises.specs.Refusals.{
   RefusedKeeps,

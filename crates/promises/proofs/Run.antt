@@ -18,8 +18,8 @@ use Rattle.rules.specs.Book.{booked, lookUp, numberOf}
 use Rattle.rules.specs.Poll.{polled, isSuccess}
 use Rattle.rules.specs.Calls.{openCall, bookCall, pollCall}
 use Rattle.rules.specs.Sound.{Ledger}
-use Rattle.laws.proofs.Opened.{opened-ledger, header-opened, field-opened, bookings-opened}
-use Rattle.laws.proofs.Ancestry.{marks→Reaches, Reaches→marks}
+use Rattle.rule_laws.proofs.Opened.{opened-ledger, header-opened, field-opened, bookings-opened}
+use Rattle.rule_laws.proofs.Ancestry.{marks→Reaches, Reaches→marks}
 use Rattle.promises.specs.Run.{
   Call,
   Open,

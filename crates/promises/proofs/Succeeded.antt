@@ -23,9 +23,9 @@ use Rattle.rules.specs.Layout.{
 use Rattle.rules.specs.Ancestry.{ancestry, isMember}
 use Rattle.rules.specs.Sound.{Ledger, BookingOf}
 use Rattle.rules.specs.Poll.{noted, raised, succeeded}
-use Rattle.laws.proofs.Slots.{slotOf-absent, booking-lt, slotOf-lt, preferredIn-lt}
-use Rattle.laws.proofs.Noted.{length-noted, confidence-noted, entry-noted-kept}
-use Rattle.laws.proofs.Raised.{
+use Rattle.rule_laws.proofs.Slots.{slotOf-absent, booking-lt, slotOf-lt, preferredIn-lt}
+use Rattle.rule_laws.proofs.Noted.{length-noted, confidence-noted, entry-noted-kept}
+use Rattle.rule_laws.proofs.Raised.{
   length-raised,
   header-raised-kept,
   field-raised-beside,

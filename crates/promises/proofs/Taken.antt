@@ -28,10 +28,10 @@ use Rattle.rules.specs.Open.{opened}
 use Rattle.rules.specs.Book.{lookUp, numberOf, hasUnknown, hasTwice, booked}
 use Rattle.rules.specs.Poll.{polled}
 use Rattle.rules.specs.Calls.{openAnswer, openCall, tested, bookAnswer, bookCall, askedOf, pollAnswer, pollCall, readingCall}
-use Rattle.laws.proofs.Calls.{number-refused, open-refused, book-refused, poll-refused}
-use Rattle.laws.proofs.Good.{isGood→Good}
-use Rattle.laws.proofs.Sound.{isSound→Sound}
-use Rattle.laws.proofs.Lookup.{isFound-false, absent-name, found-below}
+use Rattle.rule_laws.proofs.Calls.{number-refused, open-refused, book-refused, poll-refused}
+use Rattle.rule_laws.proofs.Good.{isGood→Good}
+use Rattle.rule_laws.proofs.Sound.{isSound→Sound}
+use Rattle.rule_laws.proofs.Lookup.{isFound-false, absent-name, found-below}
 use Rattle.promises.specs.Run.{isTaken}
 
 -- a booking that no refusal stops

@@ -16,12 +16,12 @@ use Rattle.rules.specs.Ancestry.{Reaches, ancestry, isMember}
 use Rattle.rules.specs.Readings.{queryOf, acceptedOf, leadOf, rivalsMost, sizeOf}
 use Rattle.rules.specs.Sound.{Ledger}
 use Rattle.rules.specs.Calls.{readingCall, queryCall, acceptedCall, leadCall, confidenceCall, sizeCall}
-use Rattle.laws.proofs.Lookup.{found-is}
-use Rattle.laws.proofs.Tested.{reading-found}
-use Rattle.laws.proofs.Ancestry.{marks→Reaches, Reaches→marks}
+use Rattle.rule_laws.proofs.Lookup.{found-is}
+use Rattle.rule_laws.proofs.Tested.{reading-found}
+use Rattle.rule_laws.proofs.Ancestry.{marks→Reaches, Reaches→marks}
 use Rattle.rules.specs.Told.{FirstArm, SecondArm}
-use Rattle.laws.proofs.Accepted.{accepted-is, accepted-genesis}
-use Rattle.laws.proofs.Readings.{query-is, rivalsMost-is}
+use Rattle.rule_laws.proofs.Accepted.{accepted-is, accepted-genesis}
+use Rattle.rule_laws.proofs.Readings.{query-is, rivalsMost-is}
 use Rattle.promises.specs.Told.{Sized, nobody, counts, passes, Tells, Told, ReadingsTold}
 
 module _ (w : List ℕ) (ledger : Ledger w) (i : ℕ) (below : i < bookings w) where

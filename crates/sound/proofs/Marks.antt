@@ -8,13 +8,13 @@ use native.Mathlib.Omega.{arith}
 use lib.Dec.{eqb, leb, ltb}
 use lib.ListN.{length, replicate, length-replicate}
 use borrow.Author.Tests.{leb-true}
-use Rattle.marks.specs.Bits.{bitAt, withBit}
-use Rattle.marks.proofs.Bits.{withBit-length, bitAt-withBit, bitAt-zeros}
+use Rattle.bits.specs.Bits.{bitAt, withBit}
+use Rattle.bits.proofs.Bits.{withBit-length, bitAt-withBit, bitAt-zeros}
 use Rattle.loops.specs.Search.{any, all}
 use Rattle.loops.proofs.Turns.{upTo-zero, upTo-more, upTo-kept}
 use Rattle.rules.specs.Layout.{mostBookings, slots, bookings, polls, slotOf, stateOf, ordinalOf}
 use Rattle.rules.specs.IsSound.{nameNew, parentsGood, stateGood, bookingGood, ordinalsHeld}
-use Rattle.rows.proofs.Few.{any-none}
+use Rattle.sound_rows.proofs.Few.{any-none}
 use Rattle.sound.specs.Ordinals.{markWords, ordinalsBelow}
 use Rattle.sound.proofs.Searches.{any-suc, all-same}
 

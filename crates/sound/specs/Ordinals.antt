@@ -3,7 +3,7 @@ use Prim.Native.Nat.{ℕ, _<_}
 use mathlib.Core.Path.{_≡_}
 use mathlib.Core.List.{List}
 use lib.ListN.{length, replicate}
-use Rattle.marks.specs.Bits.{withBit}
+use Rattle.bits.specs.Bits.{withBit}
 use Rattle.loops.specs.Turns.{upTo}
 use Rattle.rules.specs.Layout.{size, mostBookings, polls, ordinalOf}
 

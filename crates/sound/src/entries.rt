@@ -6,7 +6,7 @@ ghost use mathlib.Core.Bool.{not};
 ghost use Rattle.loops.specs.Search.{first};
 ghost use Rattle.rules.specs.Layout.{slots};
 ghost use Rattle.rules.specs.IsSound.{chits, slotGood, slotsGood};
-ghost use Rattle.rows.specs.Counted.{Counted};
+ghost use Rattle.sound_rows.specs.Counted.{Counted};
 ghost use Rattle.sound.specs.Held.{heldBelow};
 
 // The lowest slot entry that breaks a rule, or 256, where the table has the bookings of each slot.
@@ -16,7 +16,7 @@ fn bad_entry(w: &[u16], n: usize, limit: usize, held: &[u16]) -> usize
 {
     for s in 0..layout::SLOTS {
         let count = words::wide(held[s]);
-        if !rows::entry::slot_good(w, n, limit, s, count) {
+        if !sound_rows::entry::slot_good(w, n, limit, s, count) {
             return s;
         }
     }

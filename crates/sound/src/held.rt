@@ -22,7 +22,7 @@ pub(crate) fn count_all(w: &[u16], n: usize, held: &mut [u16])
     ensures { λ _. ⌜ now (held .exit) ≡ heldBelow (now (w .entry)) n ⌝ }
 {
     for i in 0..n {
-        let s = words::word(w, i, layout::SLOT);
+        let s = words::wide_field(w, i, layout::SLOT);
         count(held, s);
     }
 }

@@ -14,8 +14,8 @@ pub fn is_sound(w: &[u16]) -> bool
     requires { ⌜ length (now w) ≡ size ⌝ }
     ensures { λ r. ⌜ r ≡ isSound (now (w .entry)) ⌝ }
 {
-    if rows::header::header_good(w) {
-        let n = words::wide(words::head(w, layout::BOOKINGS));
+    if sound_rows::header::header_good(w) {
+        let n = words::wide(words::header(w, layout::BOOKINGS));
         let limit = records::chits(w, n);
         return records::records_good(w, n, limit) & entries::slots_good(w, n, limit);
     }

@@ -1,7 +1,7 @@
 // Which ordinals are held, as a bit for each.
 ghost use mathlib.Core.Path.{_≡_};
 ghost use Prim.Native.Nat.{_+_};
-ghost use Rattle.marks.specs.Bits.{bitAt};
+ghost use Rattle.bits.specs.Bits.{bitAt};
 ghost use Rattle.loops.specs.Search.{all};
 
 // How many words the marks have.
@@ -12,7 +12,7 @@ pub(crate) fn all_marked(marks: &[u64], p: usize) -> bool
     ensures { λ r. ⌜ r ≡ all (λ o. bitAt (now (marks .entry)) (o + 1)) p ⌝ }
 {
     for o in 0..p {
-        if !marks::is_set(marks, o + 1) {
+        if !bits::is_set(marks, o + 1) {
             return false;
         }
     }

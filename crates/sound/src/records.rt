@@ -8,8 +8,8 @@ ghost use lib.Dec.{ltb};
 ghost use Rattle.loops.specs.Search.{first};
 ghost use Rattle.rules.specs.Layout.{mostBookings, bookings, polls};
 ghost use Rattle.rules.specs.IsSound.{chits, nameNew, bookingGood, recordGood, recordsGood, recordZero};
-ghost use Rattle.names.specs.Names.{namesBelow};
-ghost use Rattle.rows.specs.Counted.{Counted};
+ghost use Rattle.name_filter.specs.Names.{namesBelow};
+ghost use Rattle.sound_rows.specs.Counted.{Counted};
 ghost use Rattle.sound.specs.Ordinals.{ordinalsBelow, Reached};
 
 // How many of the n records are in state 2.
@@ -19,7 +19,7 @@ pub(crate) fn chits(w: &[u16], n: usize) -> usize
 {
     let mut found = 0;
     for i in 0..n {
-        found += rows::record::chit(w, i);
+        found += sound_rows::record::chit(w, i);
     }
     found
 }
@@ -29,14 +29,14 @@ fn booking_good(w: &[u16], i: usize, marks: &[u64], fresh: bool) -> bool
     requires { ⌜ Reached (now w) i (now marks) × (fresh ≡ nameNew (now w) i) ⌝ }
     ensures { λ r. ⌜ r ≡ bookingGood (now (w .entry)) i ⌝ }
 {
-    let s = words::word(w, i, layout::SLOT);
-    let o = words::word(w, i, layout::ORDINAL);
+    let s = words::wide_field(w, i, layout::SLOT);
+    let o = words::wide_field(w, i, layout::ORDINAL);
     fresh
         & (1 <= s)
         & (s < layout::SLOTS)
-        & rows::record::parents_good(w, i)
-        & rows::record::state_good(w, i)
-        & ((o == 0) | !marks::is_set(marks, o))
+        & sound_rows::record::parents_good(w, i)
+        & sound_rows::record::state_good(w, i)
+        & ((o == 0) | !bits::is_set(marks, o))
 }
 
 // A record below n, where limit is the number of records in state 2.
@@ -44,9 +44,9 @@ fn record_good(w: &[u16], i: usize, limit: usize, marks: &[u64], fresh: bool) ->
     requires { ⌜ Reached (now w) i (now marks) × (limit ≡ chits (now w)) × (fresh ≡ nameNew (now w) i) ⌝ }
     ensures { λ r. ⌜ r ≡ recordGood (now (w .entry)) i ⌝ }
 {
-    let confidence = words::word(w, i, layout::CONFIDENCE);
+    let confidence = words::wide_field(w, i, layout::CONFIDENCE);
     if i == 0 {
-        return rows::record::genesis_good(w) & (confidence <= limit);
+        return sound_rows::record::genesis_good(w) & (confidence <= limit);
     }
     booking_good(w, i, marks, fresh) & (confidence <= limit)
 }
@@ -57,12 +57,12 @@ fn bad_record(w: &[u16], n: usize, limit: usize, marks: &mut [u64], filter: &mut
     ensures { λ r. ⌜ (r ≡ first (λ i. not (recordGood (now (w .entry)) i)) n) × (now (marks .exit) ≡ ordinalsBelow (now (w .entry)) r) ⌝ }
 {
     for i in 0..n {
-        let fresh = names::enter(w, i, filter);
+        let fresh = name_filter::enter(w, i, filter);
         if !record_good(w, i, limit, marks, fresh) {
             return i;
         }
-        let o = words::word(w, i, layout::ORDINAL);
-        marks::set_bit(marks, o);
+        let o = words::wide_field(w, i, layout::ORDINAL);
+        bits::set_bit(marks, o);
     }
     n
 }
@@ -73,7 +73,7 @@ fn stray_record(w: &[u16], n: usize) -> usize
     ensures { λ r. ⌜ r ≡ first (λ i. not (ltb i (bookings (now (w .entry))) || recordZero (now (w .entry)) i)) mostBookings ⌝ }
 {
     for i in n..layout::MOST_BOOKINGS {
-        if !rows::record::record_zero(w, i) {
+        if !sound_rows::record::record_zero(w, i) {
             return i;
         }
     }
@@ -84,9 +84,9 @@ pub(crate) fn records_good(w: &[u16], n: usize, limit: usize) -> bool
     requires { ⌜ Counted (now w) n × (polls (now w) < mostBookings) × (limit ≡ chits (now w)) ⌝ }
     ensures { λ r. ⌜ r ≡ recordsGood (now (w .entry)) ⌝ }
 {
-    let p = words::wide(words::head(w, layout::POLLS));
+    let p = words::wide(words::header(w, layout::POLLS));
     let mut marks = [0u64; ordinals::MARK_WORDS];
-    let mut filter = [0u64; names::FILTER_WORDS];
+    let mut filter = [0u64; name_filter::FILTER_WORDS];
     if bad_record(w, n, limit, &mut marks, &mut filter) == n {
         return ordinals::all_marked(&marks, p) & (stray_record(w, n) == layout::MOST_BOOKINGS);
     }

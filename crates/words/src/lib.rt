@@ -35,7 +35,7 @@ fn wide64(x: u16) -> u64
 }
 
 // Word f of the header.
-pub fn head(w: &[u16], f: usize) -> u16
+pub fn header(w: &[u16], f: usize) -> u16
     requires { ⌜ (length (now w) ≡ size) × (f < headerWords) ⌝ }
     ensures { λ r. ⌜ r ≡ header (now (w .entry)) f ⌝ }
 {
@@ -43,7 +43,7 @@ pub fn head(w: &[u16], f: usize) -> u16
     word
 }
 
-pub fn set_head(w: &mut [u16], f: usize, v: u16)
+pub fn set_header(w: &mut [u16], f: usize, v: u16)
     requires { ⌜ (length (now w) ≡ size) × (f < headerWords) ⌝ }
     ensures { λ _. ⌜ now (w .exit) ≡ withHeader (now (w .entry)) f v ⌝ }
 {
@@ -51,7 +51,7 @@ pub fn set_head(w: &mut [u16], f: usize, v: u16)
 }
 
 // Word f of record i.
-pub fn get(w: &[u16], i: usize, f: usize) -> u16
+pub fn field(w: &[u16], i: usize, f: usize) -> u16
     requires { ⌜ (length (now w) ≡ size) × (i < mostBookings) × (f < recordWords) ⌝ }
     ensures { λ r. ⌜ r ≡ field (now (w .entry)) i f ⌝ }
 {
@@ -59,11 +59,11 @@ pub fn get(w: &[u16], i: usize, f: usize) -> u16
 }
 
 // Word f of record i, as a wider number.
-pub fn word(w: &[u16], i: usize, f: usize) -> usize
+pub fn wide_field(w: &[u16], i: usize, f: usize) -> usize
     requires { ⌜ (length (now w) ≡ size) × (i < mostBookings) × (f < recordWords) ⌝ }
     ensures { λ r. ⌜ r ≡ field (now (w .entry)) i f ⌝ }
 {
-    wide(get(w, i, f))
+    wide(field(w, i, f))
 }
 
 pub fn set_field(w: &mut [u16], i: usize, f: usize, v: u16)
@@ -75,11 +75,19 @@ pub fn set_field(w: &mut [u16], i: usize, f: usize, v: u16)
 }
 
 // Word f of slot entry s.
-pub fn get_entry(w: &[u16], s: usize, f: usize) -> u16
+pub fn entry(w: &[u16], s: usize, f: usize) -> u16
     requires { ⌜ (length (now w) ≡ size) × (s < slots) × (f < slotWords) ⌝ }
     ensures { λ r. ⌜ r ≡ entry (now (w .entry)) s f ⌝ }
 {
     w[layout::SLOTS_START + layout::SLOT_WORDS * s + f]
+}
+
+// Word f of slot entry s, as a wider number.
+pub fn wide_entry(w: &[u16], s: usize, f: usize) -> usize
+    requires { ⌜ (length (now w) ≡ size) × (s < slots) × (f < slotWords) ⌝ }
+    ensures { λ r. ⌜ r ≡ entry (now (w .entry)) s f ⌝ }
+{
+    wide(entry(w, s, f))
 }
 
 pub fn set_entry(w: &mut [u16], s: usize, f: usize, v: u16)
@@ -95,10 +103,10 @@ pub fn name(w: &[u16], i: usize) -> u64
     requires { ⌜ (length (now w) ≡ size) × (i < mostBookings) ⌝ }
     ensures { λ r. ⌜ r ≡ nameOf (now (w .entry)) i ⌝ }
 {
-    let a = wide64(get(w, i, 0));
-    let b = wide64(get(w, i, 1));
-    let c = wide64(get(w, i, 2));
-    let d = wide64(get(w, i, 3));
+    let a = wide64(field(w, i, 0));
+    let b = wide64(field(w, i, 1));
+    let c = wide64(field(w, i, 2));
+    let d = wide64(field(w, i, 3));
     ((a * 65536 + b) * 65536 + c) * 65536 + d
 }
 
@@ -107,5 +115,5 @@ pub fn parent(w: &[u16], j: usize, a: usize) -> usize
     requires { ⌜ (length (now w) ≡ size) × (j < mostBookings) × (a < mostParents) ⌝ }
     ensures { λ r. ⌜ r ≡ parentOf (now (w .entry)) j a ⌝ }
 {
-    wide(get(w, j, layout::PARENTS + a))
+    wide(field(w, j, layout::PARENTS + a))
 }

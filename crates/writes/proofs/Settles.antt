@@ -24,7 +24,7 @@ use Rattle.rules.specs.Layout.{
 }
 use Rattle.rules.specs.Ancestry.{isMember}
 use Rattle.rules.specs.Poll.{prefer, follow, settleOne, settled}
-use Rattle.laws.proofs.Words.{length-withEntry, field-withEntry-kept, entry-withEntry-beside}
+use Rattle.rule_laws.proofs.Words.{length-withEntry, field-withEntry-kept, entry-withEntry-beside}
 use Rattle.writes.specs.Settling.{Settleable, Settling}
 
 -- ---- words that settle as others do

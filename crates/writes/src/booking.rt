@@ -48,7 +48,7 @@ fn enter_slot(w: &mut [u16], s: usize, i: u16)
     requires { ⌜ (length (now w) ≡ size) × (s < slots) × (heldIn (now w) s < none) ⌝ }
     ensures { λ _. ⌜ now (w .exit) ≡ entered s i (now (w .entry)) ⌝ }
 {
-    let held = words::get_entry(w, s, layout::HELD);
+    let held = words::entry(w, s, layout::HELD);
     if held == 0 {
         words::set_entry(w, s, layout::PREFERRED, i);
         words::set_entry(w, s, layout::LAST, i);
@@ -63,9 +63,9 @@ pub fn write_booking(w: &mut [u16], name: u64, slot: u16, parents: &[u16; layout
     requires { ⌜ Ledger (now w) × (bookings (now w) < mostBookings) × (slot < slots) ⌝ }
     ensures { λ _. ⌜ now (w .exit) ≡ bookedWith (now (w .entry)) name slot (now (parents .entry)) ⌝ }
 {
-    let n = words::head(w, layout::BOOKINGS);
+    let n = words::header(w, layout::BOOKINGS);
     let row = new_row(name, slot, parents);
     put_record(w, words::wide(n), &row);
     enter_slot(w, words::wide(slot), n);
-    words::set_head(w, layout::BOOKINGS, n + 1);
+    words::set_header(w, layout::BOOKINGS, n + 1);
 }

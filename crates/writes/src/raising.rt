@@ -12,8 +12,8 @@ pub fn note(w: &mut [u16], i: usize, state: u16)
     requires { ⌜ (length (now w) ≡ size) × (i < mostBookings) × (polls (now w) < mostBookings) ⌝ }
     ensures { λ _. ⌜ now (w .exit) ≡ noted (now (w .entry)) i state ⌝ }
 {
-    let p = words::head(w, layout::POLLS) + 1;
-    words::set_head(w, layout::POLLS, p);
+    let p = words::header(w, layout::POLLS) + 1;
+    words::set_header(w, layout::POLLS, p);
     words::set_field(w, i, layout::STATE, state);
     words::set_field(w, i, layout::ORDINAL, p);
 }
@@ -24,7 +24,7 @@ fn raise_one(w: &mut [u16], marks: &[u8], j: usize)
     ensures { λ _. ⌜ now (w .exit) ≡ raiseOne (now (marks .entry)) j (now (w .entry)) ⌝ }
 {
     if marks[j] == 1 {
-        let confidence = words::get(w, j, layout::CONFIDENCE);
+        let confidence = words::field(w, j, layout::CONFIDENCE);
         words::set_field(w, j, layout::CONFIDENCE, confidence + 1);
     }
 }

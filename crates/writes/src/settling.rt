@@ -12,9 +12,9 @@ fn prefer_one(w: &mut [u16], s: usize, j: usize)
     requires { ⌜ Settleable (now w) s × (j < mostBookings) ⌝ }
     ensures { λ _. ⌜ now (w .exit) ≡ prefer s j (now (w .entry)) ⌝ }
 {
-    let preferred = words::wide(words::get_entry(w, s, layout::PREFERRED));
-    let held = words::get(w, preferred, layout::CONFIDENCE);
-    let own = words::get(w, j, layout::CONFIDENCE);
+    let preferred = words::wide(words::entry(w, s, layout::PREFERRED));
+    let held = words::field(w, preferred, layout::CONFIDENCE);
+    let own = words::field(w, j, layout::CONFIDENCE);
     if held < own {
         words::set_entry(w, s, layout::PREFERRED, j as u16);
     }
@@ -25,9 +25,9 @@ fn follow_one(w: &mut [u16], s: usize, j: usize)
     requires { ⌜ Settleable (now w) s × (j < mostBookings) ⌝ }
     ensures { λ _. ⌜ now (w .exit) ≡ follow s j (now (w .entry)) ⌝ }
 {
-    let last = words::wide(words::get_entry(w, s, layout::LAST));
+    let last = words::wide(words::entry(w, s, layout::LAST));
     if last == j {
-        let counter = words::get_entry(w, s, layout::COUNTER);
+        let counter = words::entry(w, s, layout::COUNTER);
         words::set_entry(w, s, layout::COUNTER, counter + 1);
     } else {
         words::set_entry(w, s, layout::LAST, j as u16);
@@ -41,7 +41,7 @@ fn settle_one(w: &mut [u16], marks: &[u8], j: usize)
     ensures { λ _. ⌜ now (w .exit) ≡ settleOne (now (marks .entry)) j (now (w .entry)) ⌝ }
 {
     if marks[j] == 1 {
-        let s = words::word(w, j, layout::SLOT);
+        let s = words::wide_field(w, j, layout::SLOT);
         prefer_one(w, s, j);
         follow_one(w, s, j);
     }

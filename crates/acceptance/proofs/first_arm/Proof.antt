@@ -9,14 +9,14 @@ parents-accepted-requires c κs = search needs
 entry-of-requires : tie.Need-entry-of-requires
 entry-of-requires c κs = search needs
 
-head-requires : tie.Need-head-requires
-head-requires c κs = search needs
+header-requires : tie.Need-header-requires
+header-requires c κs = search needs
 
 entry-of-requires-2 : tie.Need-entry-of-requires-2
 entry-of-requires-2 c κs = search needs
 
 returns : tie.Need-returns
-returns c = rw (c .before .before .before .parents-accepted .ensures, c .before .before .entry-of .ensures, c .before .head .ensures, c .entry-of2 .ensures)
+returns c = rw (c .before .before .before .parents-accepted .ensures, c .before .before .entry-of .ensures, c .before .header .ensures, c .entry-of2 .ensures)
 
 pub first-arm-spec : {M : Type 1} → statement M
 first-arm-spec =
@@ -24,6 +24,6 @@ first-arm-spec =
     (tie.spec
     parents-accepted-requires
     entry-of-requires
-    head-requires
+    header-requires
     entry-of-requires-2
     returns)

@@ -2,7 +2,7 @@
 use mathlib.Core.Path.{ap, _∙_}
 use borrow.Author.Needs.{needs}
 use Rattle.rules.specs.Ancestry.{mark, sweep}
-use Rattle.laws.proofs.Ancestry.{sweep-all}
+use Rattle.rule_laws.proofs.Ancestry.{sweep-all}
 use Rattle.ancestry.proofs.mark_ancestry.Statement.{statement}
 use Rattle.ancestry.proofs.mark_ancestry.Tie as tie
 

@@ -5,7 +5,7 @@ use native.Mathlib.Omega.{arith}
 use lib.ListN.{length}
 use borrow.Author.Needs.{needs}
 use Rattle.rules.specs.Ancestry.{sweep}
-use Rattle.laws.proofs.Ancestry.{sweep-turn, sweep-done}
+use Rattle.rule_laws.proofs.Ancestry.{sweep-turn, sweep-done}
 use Rattle.ancestry.proofs.sweep_down.Statement.{statement}
 use Rattle.ancestry.proofs.sweep_down.Tie as tie
 

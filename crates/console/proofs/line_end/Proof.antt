@@ -6,7 +6,7 @@ use native.Mathlib.Omega.{arith}
 use lib.ListN.{length, getD}
 use borrow.Author.Count.{below-more}
 use borrow.Author.Needs.{needs}
-use Rattle.text.specs.Bytes.{lineFeed}
+use Rattle.text_bytes.specs.Bytes.{lineFeed}
 use Rattle.console.proofs.line_end.Statement.{statement}
 use Rattle.console.proofs.line_end.Tie as tie
 

@@ -7,9 +7,9 @@ use lib.Seq.{length-take-le}
 use borrow.Author.Needs.{needs}
 use Rattle.rules.specs.Layout.{size}
 use Rattle.rules.specs.IsSound.{isSound}
-use Rattle.listing.specs.Listed.{lineMost}
-use Rattle.listing.proofs.Rows.{put-length}
-use Rattle.desk.proofs.Known.{zeros-unsound}
+use Rattle.text_listing.specs.Listed.{lineMost}
+use Rattle.text_listing.proofs.Rows.{put-length}
+use Rattle.line_serve.proofs.Known.{zeros-unsound}
 use Rattle.console.specs.Lines.{gathered}
 use Rattle.console.proofs.serve_lines.Statement.{statement}
 use Rattle.console.proofs.serve_lines.Tie as tie

@@ -29,8 +29,8 @@ header-fits w h =
 header-good-requires : tie.Need-header-good-requires
 header-good-requires c κs = search needs
 
-head-requires : tie.Need-head-requires
-head-requires c κs = search needs
+header-requires : tie.Need-header-requires
+header-requires c κs = search needs
 
 wide-requires : tie.Need-wide-requires
 wide-requires c κs = search needs
@@ -40,7 +40,7 @@ good c = sym (c .before .before .before .header-good .ensures) ∙ c .before .be
 
 chits-requires : tie.Need-chits-requires
 chits-requires c κs =
-    record { whole = search needs; counts = c .wide .ensures .0 ∙ c .before .head .ensures; fits = omega (arith, header-fits _ (good c) .0) }
+    record { whole = search needs; counts = c .wide .ensures .0 ∙ c .before .header .ensures; fits = omega (arith, header-fits _ (good c) .0) }
 
 records-good-requires : tie.Need-records-good-requires
 records-good-requires c κs =
@@ -62,7 +62,7 @@ is-sound-spec =
     tie.close
     (tie.spec
     header-good-requires
-    head-requires
+    header-requires
     wide-requires
     chits-requires
     records-good-requires

@@ -16,14 +16,14 @@ abbrev μ-loop : tie.MeasureT-loop
 loop-holds : tie.Need-loop-holds Inv-loop μ-loop
 loop-holds c = (omega arith, c .before .before .pre .2)
 
-word-requires : tie.Need-word-requires Inv-loop μ-loop
-word-requires c κs = omega arith
+wide-field-requires : tie.Need-wide-field-requires Inv-loop μ-loop
+wide-field-requires c κs = omega arith
 
 count-requires : tie.Need-count-requires Inv-loop μ-loop
 count-requires c κs =
     let L = c .before .before .before .loop in
     let w = c .before .before .before .before .before .before .args .w .now in
-    (rw (L .inv .1) (heldBelow-length w (L .i)), rw (L .inv .1) (omega (arith, heldBelow-le w (L .i) (c .before .word .result))))
+    (rw (L .inv .1) (heldBelow-length w (L .i)), rw (L .inv .1) (omega (arith, heldBelow-le w (L .i) (c .before .wide-field .result))))
 
 add-i : tie.Need-add-i Inv-loop μ-loop
 add-i c = omega arith
@@ -35,7 +35,7 @@ loop-again : tie.Need-loop-again Inv-loop μ-loop
 loop-again c =
     let C = c .before .before in
     let L = C .before .before .before .before .loop in
-    (omega arith, rw (heldBelow-more, ← L .inv .1, ← C .before .before .word .ensures) (C .count .ensures))
+    (omega arith, rw (heldBelow-more, ← L .inv .1, ← C .before .before .wide-field .ensures) (C .count .ensures))
 
 same-length : tie.Need-same-length Inv-loop μ-loop
 same-length c =
@@ -56,7 +56,7 @@ count-all-spec =
     Inv-loop
     μ-loop
     loop-holds
-    word-requires
+    wide-field-requires
     count-requires
     add-i
     loop-less

@@ -5,7 +5,7 @@ use mathlib.Core.Bool.{not}
 use native.Mathlib.Omega.{arith}
 use borrow.Author.Tests.{not-true, not-false}
 use borrow.Author.Needs.{needs}
-use Rattle.marks.specs.Bits.{bitAt}
+use Rattle.bits.specs.Bits.{bitAt}
 use Rattle.loops.proofs.Search.{Searched, search-start, search-miss, all-fails}
 use Rattle.sound.proofs.Searches.{search-all}
 use Rattle.sound.proofs.ordinals.all_marked.Statement.{statement}

@@ -9,8 +9,8 @@ use borrow.Author.Needs.{needs}
 use borrow.Author.Tests.{not-true, not-false}
 use Rattle.loops.proofs.Search.{Searched, search-start, search-hit, search-miss, search-over}
 use Rattle.rules.specs.IsSound.{recordGood}
-use Rattle.names.specs.Names.{namesBelow}
-use Rattle.names.proofs.Names.{noted-length, namesBelow-length, namesBelow-more}
+use Rattle.name_filter.specs.Names.{namesBelow}
+use Rattle.name_filter.proofs.Names.{noted-length, namesBelow-length, namesBelow-more}
 use Rattle.sound.specs.Ordinals.{ordinalsBelow}
 use Rattle.sound.proofs.Marks.{ordinalsBelow-length, ordinalsBelow-more}
 use Rattle.sound.proofs.records.bad_record.Statement.{statement}
@@ -60,8 +60,8 @@ bad c =
     let L = c .before .before .before .before .before .before .before .before .loop in
     (sym (search-hit _ _ _ (L .inv .3) (omega arith) (ap not (sym (c .before .record-good .ensures) ∙ not-true _ (c .if1 .taken)))), L .inv .1)
 
-word-requires : tie.Need-word-requires Inv-loop μ-loop
-word-requires c κs = omega arith
+wide-field-requires : tie.Need-wide-field-requires Inv-loop μ-loop
+wide-field-requires c κs = omega arith
 
 set-bit-requires : tie.Need-set-bit-requires Inv-loop μ-loop
 set-bit-requires c κs = search needs
@@ -79,7 +79,7 @@ loop-again c =
     let E = G .before .before .before .before in
     let L = E .before .before .before .loop in
     let again = search-miss _ _ _ (L .inv .3) (omega arith) (ap not (sym (G .record-good .ensures) ∙ not-false _ (M .before .before .before .if1 .left))) in
-    (omega arith, rw (ordinalsBelow-more, ← L .inv .1, ← M .before .before .word .ensures) (M .set-bit .ensures), rw (namesBelow-more, ← L .inv .2) (E .enter .ensures .1), again)
+    (omega arith, rw (ordinalsBelow-more, ← L .inv .1, ← M .before .before .wide-field .ensures) (M .set-bit .ensures), rw (namesBelow-more, ← L .inv .2) (E .enter .ensures .1), again)
 
 marks-length-2 : tie.Need-same-length-3 Inv-loop μ-loop
 marks-length-2 c =
@@ -111,7 +111,7 @@ bad-record-spec =
     marks-length
     filter-length
     bad
-    word-requires
+    wide-field-requires
     set-bit-requires
     add-i
     loop-less

@@ -4,11 +4,11 @@ use borrow.Author.Needs.{needs}
 use Rattle.sound.proofs.records.booking_good.Statement.{statement}
 use Rattle.sound.proofs.records.booking_good.Tie as tie
 
-word-requires : tie.Need-word-requires
-word-requires c κs = search needs
+wide-field-requires : tie.Need-wide-field-requires
+wide-field-requires c κs = search needs
 
-word-requires-2 : tie.Need-word-requires-2
-word-requires-2 c κs = search needs
+wide-field-requires-2 : tie.Need-wide-field-requires-2
+wide-field-requires-2 c κs = search needs
 
 parents-good-requires : tie.Need-parents-good-requires
 parents-good-requires c κs = search needs
@@ -23,14 +23,14 @@ returns : tie.Need-returns
 returns c =
     let W = c .before .before .before in
     let S = W .before .before .before .before in
-    rw (S .pre .1, W .before .word .ensures, c .before .before .parents-good .ensures, c .before .state-good .ensures, c .is-set .ensures, W .word2 .ensures, S .pre .0 .lower) (bookingGood-marked (S .args .w .now) (S .args .i) (S .pre .0 .polled))
+    rw (S .pre .1, W .before .wide-field .ensures, c .before .before .parents-good .ensures, c .before .state-good .ensures, c .is-set .ensures, W .wide-field2 .ensures, S .pre .0 .lower) (bookingGood-marked (S .args .w .now) (S .args .i) (S .pre .0 .polled))
 
 pub booking-good-spec : {M : Type 1} → statement M
 booking-good-spec =
     tie.close
     (tie.spec
-    word-requires
-    word-requires-2
+    wide-field-requires
+    wide-field-requires-2
     parents-good-requires
     state-good-requires
     is-set-requires

@@ -4,8 +4,8 @@ use borrow.Author.Tests.{eq-eqb, ne-eqb}
 use Rattle.sound.proofs.records.record_good.Statement.{statement}
 use Rattle.sound.proofs.records.record_good.Tie as tie
 
-word-requires : tie.Need-word-requires
-word-requires c κs = search needs
+wide-field-requires : tie.Need-wide-field-requires
+wide-field-requires c κs = search needs
 
 genesis-good-requires : tie.Need-genesis-good-requires
 genesis-good-requires c κs = search needs
@@ -13,7 +13,7 @@ genesis-good-requires c κs = search needs
 genesis : tie.Need-returns
 genesis c =
     let S = c .before .before .before .before .before in
-    rw (eq-eqb _ 0 (c .before .if1 .taken), c .genesis-good .ensures, c .before .before .word .ensures, S .pre .1)
+    rw (eq-eqb _ 0 (c .before .if1 .taken), c .genesis-good .ensures, c .before .before .wide-field .ensures, S .pre .1)
 
 booking-good-requires : tie.Need-booking-good-requires
 booking-good-requires c κs = search needs
@@ -21,13 +21,13 @@ booking-good-requires c κs = search needs
 booking : tie.Need-returns-2
 booking c =
     let S = c .before .before .before .before .before in
-    rw (ne-eqb _ 0 (c .before .if1 .left), c .booking-good .ensures, c .before .before .word .ensures, S .pre .1)
+    rw (ne-eqb _ 0 (c .before .if1 .left), c .booking-good .ensures, c .before .before .wide-field .ensures, S .pre .1)
 
 pub record-good-spec : {M : Type 1} → statement M
 record-good-spec =
     tie.close
     (tie.spec
-    word-requires
+    wide-field-requires
     genesis-good-requires
     genesis
     booking-good-requires

@@ -7,13 +7,13 @@ use borrow.Author.Needs.{needs}
 use Rattle.loops.specs.Search.{all}
 use Rattle.rules.specs.Layout.{bookings}
 use Rattle.rules.specs.IsSound.{recordGood, ordinalsHeld, recordsGood}
-use Rattle.names.proofs.Names.{namesBelow-zero}
+use Rattle.name_filter.proofs.Names.{namesBelow-zero}
 use Rattle.sound.proofs.Marks.{ordinalsBelow-zero, ordinalsHeld-marked}
 use Rattle.sound.proofs.records.records_good.Statement.{statement}
 use Rattle.sound.proofs.records.records_good.Tie as tie
 
-head-requires : tie.Need-head-requires
-head-requires c κs = search needs
+header-requires : tie.Need-header-requires
+header-requires c κs = search needs
 
 wide-requires : tie.Need-wide-requires
 wide-requires c κs = search needs
@@ -49,7 +49,7 @@ none-bad c =
     let w = S .args .w .now in
     let good : all (recordGood w) (bookings w) ≡ true = rw (← S .pre .0 .counts) (eq-eqb _ _ (sym (B .bad-record .ensures .0) ∙ I .if1 .taken)) in
     let held : c .before .all-marked .result ≡ ordinalsHeld w =
-    c .before .all-marked .ensures ∙ rw (A .wide .ensures .0, A .before .head .ensures, B .bad-record .ensures .1, I .if1 .taken, S .pre .0 .counts) (ordinalsHeld-marked w (S .pre .1)) in
+    c .before .all-marked .ensures ∙ rw (A .wide .ensures .0, A .before .header .ensures, B .bad-record .ensures .1, I .if1 .taken, S .pre .0 .counts) (ordinalsHeld-marked w (S .pre .1)) in
     rw (good, held, c .stray-record .ensures)
 
 some-bad : tie.Need-returns-2
@@ -63,7 +63,7 @@ pub records-good-spec : {M : Type 1} → statement M
 records-good-spec =
     tie.close
     (tie.spec
-    head-requires
+    header-requires
     wide-requires
     slice-aggregate-marks
     slice-aggregate-filter

@@ -7,8 +7,8 @@ use Rattle.writes.proofs.Rows.{sets-entry}
 use Rattle.writes.proofs.booking.enter_slot.Statement.{statement}
 use Rattle.writes.proofs.booking.enter_slot.Tie as tie
 
-get-entry-requires : tie.Need-get-entry-requires
-get-entry-requires c κs = search needs
+entry-requires : tie.Need-entry-requires
+entry-requires c κs = search needs
 
 set-entry-requires : tie.Need-set-entry-requires
 set-entry-requires c κs = search needs
@@ -40,7 +40,7 @@ empty-slot c =
     let first = second .before .before .before .before in
     let test = first .before .before in
     let start = test .before .before .before .before in
-    simp (← test .before .get-entry .ensures, eq-eqb _ _ (test .if1 .taken))
+    simp (← test .before .entry .ensures, eq-eqb _ _ (test .if1 .taken))
     (fourth .set-entry4 .ensures
     ∙ rw (third .set-entry3 .ensures, second .set-entry2 .ensures, first .set-entry .ensures)
     (sym (sets-entry (start .args .w .now) (start .args .s) (start .args .i) (start .args .i) 0 1)))
@@ -52,13 +52,13 @@ held-slot : tie.Need-returns-2
 unfolding entered
 held-slot c =
     let I = c .before .before .before .before in
-    simp (← I .before .get-entry .ensures, ne-eqb _ _ (I .if1 .left)) (c .before .before .set-entry5 .ensures)
+    simp (← I .before .entry .ensures, ne-eqb _ _ (I .if1 .left)) (c .before .before .set-entry5 .ensures)
 
 pub enter-slot-spec : {M : Type 1} → statement M
 enter-slot-spec =
     tie.close
     (tie.spec
-    get-entry-requires
+    entry-requires
     set-entry-requires
     set-entry-requires-2
     set-entry-requires-3

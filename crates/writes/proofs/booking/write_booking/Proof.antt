@@ -5,14 +5,14 @@ use lib.ListN.{length}
 use native.Mathlib.Omega.{arith}
 use borrow.Author.Needs.{needs}
 use Rattle.rules.specs.Layout.{recordWords, heldField}
-use Rattle.laws.proofs.Words.{entry-setsRecord-kept}
+use Rattle.rule_laws.proofs.Words.{entry-setsRecord-kept}
 use Rattle.writes.proofs.Numbers.{bookedWith-steps}
 use Rattle.writes.proofs.Held.{held-most}
 use Rattle.writes.proofs.booking.write_booking.Statement.{statement}
 use Rattle.writes.proofs.booking.write_booking.Tie as tie
 
-head-requires : tie.Need-head-requires
-head-requires c κs = search needs
+header-requires : tie.Need-header-requires
+header-requires c κs = search needs
 
 new-row-requires : tie.Need-new-row-requires
 new-row-requires c κs = search needs
@@ -38,11 +38,11 @@ enter-slot-requires c κs =
     let kept = entry-setsRecord-kept (S .args .w .now) (P .before .before .wide .result) (N .new-row .result) (c .wide2 .result) heldField (search needs) short in
     (search needs, search needs, rw (P .put-record .ensures, kept, c .wide2 .ensures .0) (omega (arith, held-most (S .pre .0) (S .args .slot) (search needs))))
 
-add-set-head : tie.Need-add-set-head
-add-set-head c = search needs
+add-set-header : tie.Need-add-set-header
+add-set-header c = search needs
 
-set-head-requires : tie.Need-set-head-requires
-set-head-requires c κs = search needs
+set-header-requires : tie.Need-set-header-requires
+set-header-requires c κs = search needs
 
 same-length : tie.Need-same-length
 same-length c = search needs
@@ -53,9 +53,9 @@ returns c =
     let P = E .before .before .before .before .before in
     let N = P .before .before .before .before in
     let S = N .before .before .before .before in
-    c .before .before .set-head .ensures
+    c .before .before .set-header .ensures
     ∙ bookedWith-steps (S .args .w .now) (S .args .name) (S .args .slot) (S .args .parents .now)
-    (N .before .head .ensures)
+    (N .before .header .ensures)
     (N .new-row .ensures)
     (rw (P .before .before .wide .ensures .0) at (P .put-record .ensures))
     (rw (E .before .wide2 .ensures .0) at (E .enter-slot .ensures))
@@ -64,14 +64,14 @@ pub write-booking-spec : {M : Type 1} → statement M
 write-booking-spec =
     tie.close
     (tie.spec
-    head-requires
+    header-requires
     new-row-requires
     wide-requires
     slice-aggregate-put-record
     put-record-requires
     wide-requires-2
     enter-slot-requires
-    add-set-head
-    set-head-requires
+    add-set-header
+    set-header-requires
     same-length
     returns)

@@ -3,14 +3,14 @@ use borrow.Author.Needs.{needs}
 use Rattle.writes.proofs.raising.note.Statement.{statement}
 use Rattle.writes.proofs.raising.note.Tie as tie
 
-head-requires : tie.Need-head-requires
-head-requires c κs = search needs
+header-requires : tie.Need-header-requires
+header-requires c κs = search needs
 
 add-p : tie.Need-add-p
 add-p c = search needs
 
-set-head-requires : tie.Need-set-head-requires
-set-head-requires c κs = search needs
+set-header-requires : tie.Need-set-header-requires
+set-header-requires c κs = search needs
 
 set-field-requires : tie.Need-set-field-requires
 set-field-requires c κs = search needs
@@ -26,15 +26,15 @@ returns c =
     let O = c .before .before in
     let S = O .before .before .before .before in
     let P = S .before .before .before .before in
-    rw (O .set-field2 .ensures, S .set-field .ensures, P .set-head .ensures, P .before .before .head .ensures)
+    rw (O .set-field2 .ensures, S .set-field .ensures, P .set-header .ensures, P .before .before .header .ensures)
 
 pub note-spec : {M : Type 1} → statement M
 note-spec =
     tie.close
     (tie.spec
-    head-requires
+    header-requires
     add-p
-    set-head-requires
+    set-header-requires
     set-field-requires
     set-field-requires-2
     same-length

@@ -7,7 +7,7 @@ use borrow.Author.Needs.{needs}
 use Rattle.loops.proofs.Turns.{upTo-zero, upTo-more}
 use Rattle.rules.specs.Layout.{size}
 use Rattle.rules.specs.Poll.{raised}
-use Rattle.laws.proofs.Raised.{confidence-raised-rest}
+use Rattle.rule_laws.proofs.Raised.{confidence-raised-rest}
 use Rattle.writes.proofs.raising.raise.Statement.{statement}
 use Rattle.writes.proofs.raising.raise.Tie as tie
 

@@ -8,8 +8,8 @@ use Rattle.writes.proofs.raising.raise_one.Tie as tie
 shared-slice-read-if1 : tie.Need-shared-slice-read-if1
 shared-slice-read-if1 c = search needs
 
-get-requires : tie.Need-get-requires
-get-requires c κs = search needs
+field-requires : tie.Need-field-requires
+field-requires c κs = search needs
 
 add-set-field : tie.Need-add-set-field
 add-set-field c = search needs
@@ -24,7 +24,7 @@ member : tie.Need-returns
 unfolding raiseOne
 member c =
     let G = c .before .before .before .before in
-    simp (c .before .before .set-field .ensures, G .get .ensures, eq-eqb _ _ (G .before .before .if1 .taken))
+    simp (c .before .before .set-field .ensures, G .field .ensures, eq-eqb _ _ (G .before .before .if1 .taken))
 
 no-member : tie.Need-returns-2
 unfolding raiseOne
@@ -35,7 +35,7 @@ raise-one-spec =
     tie.close
     (tie.spec
     shared-slice-read-if1
-    get-requires
+    field-requires
     add-set-field
     set-field-requires
     same-length

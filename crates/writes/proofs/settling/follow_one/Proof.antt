@@ -5,14 +5,14 @@ use Rattle.rules.specs.Poll.{follow}
 use Rattle.writes.proofs.settling.follow_one.Statement.{statement}
 use Rattle.writes.proofs.settling.follow_one.Tie as tie
 
-get-entry-requires : tie.Need-get-entry-requires
-get-entry-requires c κs = search needs
+entry-requires : tie.Need-entry-requires
+entry-requires c κs = search needs
 
 wide-requires : tie.Need-wide-requires
 wide-requires c κs = search needs
 
-get-entry-requires-2 : tie.Need-get-entry-requires-2
-get-entry-requires-2 c κs = search needs
+entry-requires-2 : tie.Need-entry-requires-2
+entry-requires-2 c κs = search needs
 
 add-set-entry : tie.Need-add-set-entry
 add-set-entry c = search needs
@@ -37,7 +37,7 @@ unfolding follow
 last-again c =
     let G = c .before .before .before .before in
     let I = G .before .before in
-    simp (c .before .before .set-entry .ensures, G .get-entry2 .ensures, ← I .before .before .get-entry .ensures, ← I .before .wide .ensures .0, eq-eqb _ _ (I .if1 .taken))
+    simp (c .before .before .set-entry .ensures, G .entry2 .ensures, ← I .before .before .entry .ensures, ← I .before .wide .ensures .0, eq-eqb _ _ (I .if1 .taken))
 
 same-length-2 : tie.Need-same-length-2
 same-length-2 c = search needs
@@ -48,15 +48,15 @@ newly-last c =
     let S = c .before .before in
     let F = S .before .before .before .before in
     let I = F .before .before in
-    simp (S .set-entry3 .ensures, F .set-entry2 .ensures, ← I .before .before .get-entry .ensures, ← I .before .wide .ensures .0, ne-eqb _ _ (I .if1 .left))
+    simp (S .set-entry3 .ensures, F .set-entry2 .ensures, ← I .before .before .entry .ensures, ← I .before .wide .ensures .0, ne-eqb _ _ (I .if1 .left))
 
 pub follow-one-spec : {M : Type 1} → statement M
 follow-one-spec =
     tie.close
     (tie.spec
-    get-entry-requires
+    entry-requires
     wide-requires
-    get-entry-requires-2
+    entry-requires-2
     add-set-entry
     set-entry-requires
     cast-set-entry

@@ -5,17 +5,17 @@ use Rattle.rules.specs.Poll.{prefer}
 use Rattle.writes.proofs.settling.prefer_one.Statement.{statement}
 use Rattle.writes.proofs.settling.prefer_one.Tie as tie
 
-get-entry-requires : tie.Need-get-entry-requires
-get-entry-requires c κs = search needs
+entry-requires : tie.Need-entry-requires
+entry-requires c κs = search needs
 
 wide-requires : tie.Need-wide-requires
 wide-requires c κs = search needs
 
-get-requires : tie.Need-get-requires
-get-requires c κs = search needs
+field-requires : tie.Need-field-requires
+field-requires c κs = search needs
 
-get-requires-2 : tie.Need-get-requires-2
-get-requires-2 c κs = search needs
+field-requires-2 : tie.Need-field-requires-2
+field-requires-2 c κs = search needs
 
 cast-set-entry : tie.Need-cast-set-entry
 cast-set-entry c = search needs
@@ -32,7 +32,7 @@ above c =
     let I = c .before .before .before .before in
     let G = I .before .before .before in
     let P = G .before .before in
-    simp (← P .before .get-entry .ensures, ← P .wide .ensures .0, ← G .get .ensures, ← I .before .get2 .ensures, lt-ltb _ _ (I .if1 .taken))
+    simp (← P .before .entry .ensures, ← P .wide .ensures .0, ← G .field .ensures, ← I .before .field2 .ensures, lt-ltb _ _ (I .if1 .taken))
     (c .before .before .set-entry .ensures)
 
 same-length-2 : tie.Need-same-length-2
@@ -43,16 +43,16 @@ unfolding prefer
 not-above c =
     let G = c .before .before .before in
     let P = G .before .before in
-    simp (← P .before .get-entry .ensures, ← P .wide .ensures .0, ← G .get .ensures, ← c .before .get2 .ensures, le-ltb _ _ (c .if1 .left))
+    simp (← P .before .entry .ensures, ← P .wide .ensures .0, ← G .field .ensures, ← c .before .field2 .ensures, le-ltb _ _ (c .if1 .left))
 
 pub prefer-one-spec : {M : Type 1} → statement M
 prefer-one-spec =
     tie.close
     (tie.spec
-    get-entry-requires
+    entry-requires
     wide-requires
-    get-requires
-    get-requires-2
+    field-requires
+    field-requires-2
     cast-set-entry
     set-entry-requires
     same-length

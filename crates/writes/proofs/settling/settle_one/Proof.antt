@@ -9,13 +9,13 @@ use Rattle.writes.proofs.settling.settle_one.Tie as tie
 shared-slice-read-if1 : tie.Need-shared-slice-read-if1
 shared-slice-read-if1 c = search needs
 
-word-requires : tie.Need-word-requires
-word-requires c κs = search needs
+wide-field-requires : tie.Need-wide-field-requires
+wide-field-requires c κs = search needs
 
 prefer-one-requires : tie.Need-prefer-one-requires
 prefer-one-requires c κs =
     let S = c .before .before .before .before .before .before .before in
-    (rw (c .before .word .ensures) (S .pre .0), search needs)
+    (rw (c .before .wide-field .ensures) (S .pre .0), search needs)
 
 follow-one-requires : tie.Need-follow-one-requires
 follow-one-requires c κs =
@@ -31,7 +31,7 @@ member c =
     let F = c .before .before in
     let P = F .before .before .before .before in
     let G = P .before .before in
-    simp (eq-eqb _ _ (G .before .before .if1 .taken)) (rw (F .follow-one .ensures, P .prefer-one .ensures, G .word .ensures))
+    simp (eq-eqb _ _ (G .before .before .if1 .taken)) (rw (F .follow-one .ensures, P .prefer-one .ensures, G .wide-field .ensures))
 
 no-member : tie.Need-returns-2
 unfolding settleOne
@@ -42,7 +42,7 @@ settle-one-spec =
     tie.close
     (tie.spec
     shared-slice-read-if1
-    word-requires
+    wide-field-requires
     prefer-one-requires
     follow-one-requires
     same-length

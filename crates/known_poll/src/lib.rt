@@ -1,0 +1,86 @@
+// A completed poll on words that are known to be a ledger: refusals 1 and 2 are judged above, once, and every other one here, in its order.
+use poll_writes::writing;
+use rules::layout;
+use terms::answer::Answer;
+use terms::answer::Found;
+use terms::answer::Refusal;
+use terms::vote;
+use terms::vote::State;
+use votes;
+ghost use mathlib.Core.Path.{_≡_};
+ghost use Prim.Native.Nat.{_<_};
+ghost use mathlib.Core.Bool.{not};
+ghost use lib.ListN.{length};
+ghost use lib.Dec.{eqb};
+ghost use Rattle.rules.specs.Layout.{size, mostBookings, bookings, settingIn, stateOf};
+ghost use Rattle.terms.specs.Answers.{outcome};
+ghost use Rattle.rules.specs.Sound.{Ledger};
+ghost use Rattle.rules.specs.Poll.{isSuccess, polled};
+ghost use Rattle.rules.specs.Calls.{pollCall};
+
+// The yes votes number a or more.
+fn is_success(w: &[u16], votes: &[u8]) -> bool
+    requires { ⌜ length (now w) ≡ size ⌝ }
+    ensures { λ r. ⌜ r ≡ isSuccess (now (w .entry)) (now (votes .entry)) ⌝ }
+{
+    words::wide(words::header(w, layout::A)) <= votes::count_yes(votes)
+}
+
+// Booking i after the poll, by the votes.
+fn write_poll(w: &mut [u16], i: usize, votes: &[u8])
+    requires { ⌜ Ledger (now w) × (i < bookings (now w)) ⌝ }
+    ensures { λ _. ⌜ now (w .exit) ≡ polled (now (w .entry)) i (now (votes .entry)) ⌝ }
+{
+    if is_success(w, votes) {
+        let mut marks = [0u8; layout::MOST_BOOKINGS];
+        ancestry::mark_ancestry(w, &mut marks, i);
+        writing::write_success(w, &marks, i);
+    } else {
+        writing::write_failure(w, i);
+    }
+}
+
+// The state of booking i isn't 0.
+fn is_polled(w: &[u16], i: usize) -> bool
+    requires { ⌜ (length (now w) ≡ size) × (i < mostBookings) ⌝ }
+    ensures { λ r. ⌜ r ≡ not (eqb (stateOf (now (w .entry)) i) 0) ⌝ }
+{
+    match vote::read_state(words::field(w, i, layout::STATE)) {
+        State::Waiting => false,
+        State::NoChit => true,
+        State::Chit => true,
+        State::Unknown => true,
+    }
+}
+
+// The number of votes isn't k.
+fn is_miscounted(w: &[u16], count: usize) -> bool
+    requires { ⌜ length (now w) ≡ size ⌝ }
+    ensures { λ r. ⌜ r ≡ not (eqb count (settingIn (now (w .entry)) .k)) ⌝ }
+{
+    count != words::wide(words::header(w, layout::K))
+}
+
+// What refusals 11, 12 and 13 ask is asked of the booking found; then the first that applies is given, or the poll is written.
+pub fn poll(w: &mut [u16], name: u64, votes: &[u8]) -> Answer
+    requires { ⌜ Ledger (now w) ⌝ }
+    ensures { λ r. ⌜ outcome r (now (w .exit)) ≡ pollCall (now (w .entry)) name (now (votes .entry)) ⌝ }
+{
+    let Found::At(i) = booking_reads::booking::find(w, name) else {
+        return Answer::Refused(Refusal::UnknownName);
+    };
+    let polled = is_polled(w, i);
+    let miscounted = is_miscounted(w, votes.len());
+    let bad_vote = votes::has_refused(votes);
+    if polled {
+        return Answer::Refused(Refusal::NotWaiting);
+    }
+    if miscounted {
+        return Answer::Refused(Refusal::WrongVotes);
+    }
+    if bad_vote {
+        return Answer::Refused(Refusal::BadVote);
+    }
+    write_poll(w, i, votes);
+    Answer::Taken(0)
+}

@@ -1,0 +1,15 @@
+-- The call is the reading of its kind.
+use borrow.Author.Needs.{needs}
+use Rattle.rules.specs.Calls.{acceptedCall}
+use Rattle.ledger_reads.proofs.accepted.Statement.{statement}
+use Rattle.ledger_reads.proofs.accepted.Tie as tie
+
+read-requires : tie.Need-read-requires
+read-requires c κs = search needs
+
+returns : tie.Need-returns
+unfolding acceptedCall
+returns c = c .read .ensures
+
+pub accepted-spec : {M : Type 1} → statement M
+accepted-spec = tie.close (tie.spec read-requires returns)

@@ -1,0 +1,15 @@
+-- The call is the reading of its kind.
+use borrow.Author.Needs.{needs}
+use Rattle.rules.specs.Calls.{leadCall}
+use Rattle.ledger_reads.proofs.lead.Statement.{statement}
+use Rattle.ledger_reads.proofs.lead.Tie as tie
+
+read-requires : tie.Need-read-requires
+read-requires c κs = search needs
+
+returns : tie.Need-returns
+unfolding leadCall
+returns c = c .read .ensures
+
+pub lead-spec : {M : Type 1} → statement M
+lead-spec = tie.close (tie.spec read-requires returns)

@@ -1,0 +1,24 @@
+// What every public call but open asks first, once: is the lent memory a ledger.
+use rules::layout;
+use terms::answer::Refusal;
+ghost use mathlib.Core.Path.{_≡_};
+ghost use Rattle.ledger_test.specs.Test.{testOf};
+
+// Whether a workspace is a ledger, or which of refusals 1 and 2 stops the call.
+pub enum Tested {
+    Fine,
+    Stop(Refusal),
+}
+
+pub fn test(w: &[u16]) -> Tested
+    ensures { λ r. ⌜ r ≡ testOf (now (w .entry)) ⌝ }
+{
+    if w.len() != layout::SIZE {
+        return Tested::Stop(Refusal::WrongLength);
+    }
+    if sound::is_sound(w) {
+        Tested::Fine
+    } else {
+        Tested::Stop(Refusal::NotSound)
+    }
+}

@@ -1,0 +1,54 @@
+-- Each choice falls back on the one made before it, as the definition nests them.
+use borrow.Author.Needs.{needs}
+use Rattle.line_keyword.proofs.read_keyword.Statement.{statement}
+use Rattle.line_keyword.proofs.read_keyword.Tie as tie
+
+slice-aggregate-either : tie.Need-slice-aggregate-either
+slice-aggregate-either c = search needs
+
+read-reading-requires : tie.Need-read-reading-requires
+read-reading-requires c κs = search needs
+
+either-requires : tie.Need-either-requires
+either-requires c κs = search needs
+
+slice-aggregate-either-2 : tie.Need-slice-aggregate-either-2
+slice-aggregate-either-2 c = search needs
+
+either-requires-2 : tie.Need-either-requires-2
+either-requires-2 c κs = search needs
+
+slice-aggregate-either-3 : tie.Need-slice-aggregate-either-3
+slice-aggregate-either-3 c = search needs
+
+either-requires-3 : tie.Need-either-requires-3
+either-requires-3 c κs = search needs
+
+slice-aggregate-either-4 : tie.Need-slice-aggregate-either-4
+slice-aggregate-either-4 c = search needs
+
+either-requires-4 : tie.Need-either-requires-4
+either-requires-4 c κs = search needs
+
+returns : tie.Need-returns
+returns c =
+    let start = c .either4 .ensures in
+    let book = c .before .before .either3 .ensures in
+    let poll = c .before .before .before .before .either2 .ensures in
+    let list = c .before .before .before .before .before .before .either .ensures in
+    rw (start, book, poll, list, c .before .before .before .before .before .before .before .read-reading .ensures)
+
+pub read-keyword-spec : {M : Type 1} → statement M
+read-keyword-spec =
+    tie.close
+    (tie.spec
+    slice-aggregate-either
+    read-reading-requires
+    either-requires
+    slice-aggregate-either-2
+    either-requires-2
+    slice-aggregate-either-3
+    either-requires-3
+    slice-aggregate-either-4
+    either-requires-4
+    returns)

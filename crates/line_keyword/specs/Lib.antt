@@ -1,0 +1,2 @@
+-- What the word that begins a line asks for.
+pub mod Keywords

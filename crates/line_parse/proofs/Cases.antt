@@ -1,0 +1,92 @@
+-- Lines with what they say, computed from the definitions: what each rule of the syntax takes and what it leaves out.
+use mathlib.Core.Path.{_≡_, refl}
+use mathlib.Core.List.{List, [], _∷_}
+use Prim.Native.String.{String}
+use Rattle.loops.specs.Search.{firstFrom}
+use Rattle.loops.specs.Turns.{upTo}
+use Rattle.text_bytes.specs.Bytes.{bytes}
+use Rattle.terms.specs.declared.answer.Reading.the-variants.{Query, Accepted, Lead, Confidence, Size}
+use Rattle.line_words.specs.Words.{words, wordEnd, wordsAfter}
+use Rattle.line_number.specs.Numbers.{valueOf, isNumber, numberOf, voteOf}
+use Rattle.line_keyword.specs.Keywords.{isSame}
+use Rattle.line_scan.specs.Lists.{leading, manyOf}
+use Rattle.line_parse.specs.declared.command.Command.the-variants.{Open, Book, Poll, Read, List as ListAll, Bad}
+use Rattle.line_parse.specs.Line.{Said, alone, openSays, readSays, bookSays, pollSays, lineSays}
+
+unfoldable says : String → Said
+says line = lineSays (bytes line)
+
+abbrev bad : Said
+bad = alone Bad
+
+good-lines :
+    (says "open 3 2 1 2" ≡ alone (Open (record { k = 3; a = 2; beta1 = 1; beta2 = 2 })))
+    × (says "book 4 10 1 2" ≡ record { command = Book 4 10 2; parents = 1 ∷ 2 ∷ []; votes = [] })
+    × (says "book 4 10" ≡ alone (Book 4 10 0))
+    × (says "poll 2 1 1 -1" ≡ record { command = Poll 2 3; parents = []; votes = 1 ∷ 1 ∷ 255 ∷ [] })
+    × (says "poll 2" ≡ alone (Poll 2 0))
+    × (says "query 1" ≡ alone (Read Query 1))
+    × (says "accepted 1" ≡ alone (Read Accepted 1))
+    × (says "lead 1" ≡ alone (Read Lead 1))
+    × (says "confidence 1" ≡ alone (Read Confidence 1))
+    × (says "size 1" ≡ alone (Read Size 1))
+    × (says "list" ≡ alone ListAll)
+unfolding says lineSays words wordEnd wordsAfter valueOf isNumber numberOf voteOf isSame leading manyOf openSays readSays bookSays pollSays firstFrom upTo
+good-lines = (refl, refl, refl, refl, refl, refl, refl, refl, refl, refl, refl)
+
+-- the limits of numbers: names, everything else, and twenty digits
+numbers :
+    (says "query 18446744073709551615" ≡ alone (Read Query 18446744073709551615))
+    × (says "query 18446744073709551616" ≡ bad)
+    × (says "query 99999999999999999999" ≡ bad)
+    × (says "query 00000000000000000007" ≡ alone (Read Query 7))
+    × (says "query 000000000000000000007" ≡ bad)
+    × (says "query -1" ≡ bad)
+    × (says "query 1a" ≡ bad)
+    × (says "book 1 65535" ≡ alone (Book 1 65535 0))
+    × (says "book 1 65536" ≡ bad)
+    × (says "open 65535 0 0 0" ≡ alone (Open (record { k = 65535; a = 0; beta1 = 0; beta2 = 0 })))
+    × (says "open 65536 0 0 0" ≡ bad)
+unfolding says lineSays words wordEnd wordsAfter valueOf isNumber numberOf voteOf isSame leading manyOf openSays readSays bookSays pollSays firstFrom upTo
+numbers = (refl, refl, refl, refl, refl, refl, refl, refl, refl, refl, refl)
+
+-- votes: the number typed is limited, not its byte, and the sign is none of the twenty digits
+votes :
+    (says "poll 2 -0 -128 127" ≡ record { command = Poll 2 3; parents = []; votes = 0 ∷ 128 ∷ 127 ∷ [] })
+    × (says "poll 2 128" ≡ bad)
+    × (says "poll 2 255" ≡ bad)
+    × (says "poll 2 -129" ≡ bad)
+    × (says "poll 2 -" ≡ bad)
+    × (says "poll 2 --1" ≡ bad)
+    × (says "poll 2 -00000000000000000001" ≡ record { command = Poll 2 1; parents = []; votes = 255 ∷ [] })
+    × (says "poll 2 1 x" ≡ record { command = Bad; parents = []; votes = 1 ∷ [] })
+unfolding says lineSays words wordEnd wordsAfter valueOf isNumber numberOf voteOf isSame leading manyOf openSays readSays bookSays pollSays firstFrom upTo
+votes = (refl, refl, refl, refl, refl, refl, refl, refl)
+
+-- spaces, letters and the number of words
+other-lines :
+    (says "" ≡ bad)
+    × (says " " ≡ bad)
+    × (says " list" ≡ bad)
+    × (says "list " ≡ bad)
+    × (says "list 1" ≡ bad)
+    × (says "List" ≡ bad)
+    × (says "lists" ≡ bad)
+    × (says "open  3 2 1 2" ≡ bad)
+    × (says "open 3 2 1" ≡ bad)
+    × (says "open 3 2 1 2 0" ≡ bad)
+    × (says "query" ≡ bad)
+    × (says "query 1 2" ≡ bad)
+    × (says "query\t1" ≡ bad)
+    × (says "query 1\r" ≡ bad)
+    × (says "book 1" ≡ bad)
+    × (says "poll" ≡ bad)
+unfolding says lineSays words wordEnd wordsAfter valueOf isNumber numberOf voteOf isSame leading manyOf openSays readSays bookSays pollSays firstFrom upTo
+other-lines = (refl, refl, refl, refl, refl, refl, refl, refl, refl, refl, refl, refl, refl, refl, refl, refl)
+
+-- sixteen parents are taken, one more is not
+too-many :
+    ((says "book 2 3 1 1 1 1 1 1 1 1 1 1 1 1 1 1 1 1") .command ≡ Book 2 3 16)
+    × ((says "book 2 3 1 1 1 1 1 1 1 1 1 1 1 1 1 1 1 1 1") .command ≡ Bad)
+unfolding says lineSays words wordEnd wordsAfter valueOf isNumber numberOf voteOf isSame leading manyOf openSays readSays bookSays pollSays firstFrom upTo
+too-many = (refl, refl)

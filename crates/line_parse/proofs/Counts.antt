@@ -1,0 +1,160 @@
+-- A good line counts the numbers that it wrote: a caller may lend the start of the buffer, as long as the count says, and
+-- lends exactly the parents, or the votes, that the line says.
+use mathlib.Core.Path.{_≡_, refl, sym, ap, _∙_}
+use mathlib.Core.Bool.{Bool, true, false, cond}
+use mathlib.Core.List.{List, [], _∷_}
+use Prim.Native.Nat.{ℕ, _+_, _≤_}
+use native.Mathlib.Omega.{arith}
+use lib.ListN.{length, take, drop}
+use lib.Seq.{sets, sets-eq, take-at}
+use lib.Dec.{ltb}
+use Rattle.terms.specs.declared.setting.Setting.{Setting}
+use Rattle.line_scan.specs.declared.many.Many.{Many}
+use Rattle.line_scan.specs.declared.many.Many.the-variants.{Count, Refused}
+use Rattle.terms.specs.declared.answer.Reading.{Reading}
+use Rattle.line_keyword.specs.declared.Keyword.{Keyword}
+use Rattle.line_keyword.specs.declared.Keyword.the-variants.{
+  Open as openWord,
+  Book as bookWord,
+  Poll as pollWord,
+  Read as readWord,
+  List as listWord,
+  Unknown,
+}
+use Rattle.line_words.specs.Words.{words}
+use Rattle.line_number.specs.Numbers.{nameOf, shortOf, voteOf}
+use Rattle.line_keyword.specs.Keywords.{keywordOf}
+use Rattle.line_scan.specs.Lists.{openMost, parentsMost, votesMost, leading, manyOf}
+use Rattle.line_scan.proofs.Leading.{many-count, leading-length}
+use Rattle.line_parse.specs.declared.command.Command.{Command}
+use Rattle.line_parse.specs.declared.command.Command.the-variants.{Open, Book, Poll, Read, List as ListAll, Bad}
+use Rattle.line_parse.specs.Line.{
+  nothing,
+  Said,
+  alone,
+  settingOf,
+  openWith,
+  openSays,
+  readSays,
+  bookWith,
+  bookSays,
+  pollWith,
+  pollSays,
+  keywordSays,
+  wordsSay,
+  lineSays,
+  Parsed,
+}
+use Rattle.line_parse.proofs.Whole.{number-holds}
+
+-- the count of a booking is that of its parents, within the limit; likewise a poll's votes
+pub record Counted (s : Said) : Type 0 where
+  pub books : (name slot n : ℕ) → s .command ≡ Book name slot n → (n ≡ length (s .parents)) × (n ≤ parentsMost)
+  pub polls : (name n : ℕ) → s .command ≡ Poll name n → (n ≡ length (s .votes)) × (n ≤ votesMost)
+
+-- what follows where two different commands would be equal
+clash : _≡_ {A = ℕ} 0 1 → ⊥
+clash z = omega arith
+
+-- a command that is neither
+pub data Listless : Command → Type 0 where
+  opens : (s : Setting) → Listless (Open s)
+  reads : (r : Reading) (name : ℕ) → Listless (Read r name)
+  lists : Listless ListAll
+  bad : Listless Bad
+
+listless-counted : (c : Command) → Listless c → Counted (alone c)
+listless-counted c (opens s) = record { books = λ name slot n e. absurd (clash (cc)); polls = λ name n e. absurd (clash (cc)) }
+listless-counted c (reads r x) = record { books = λ name slot n e. absurd (clash (cc)); polls = λ name n e. absurd (clash (cc)) }
+listless-counted c lists = record { books = λ name slot n e. absurd (clash (cc)); polls = λ name n e. absurd (clash (cc)) }
+listless-counted c bad = record { books = λ name slot n e. absurd (clash (cc)); polls = λ name n e. absurd (clash (cc)) }
+
+open-listless : (ws : List (List ℕ)) → Listless (openSays ws)
+unfolding openSays
+open-listless ws = go (manyOf shortOf openMost ws) (leading shortOf openMost ws)
+  where
+    go : (m : Many) (vs : List ℕ) → Listless (openWith m vs)
+    go (Count n) vs = pick (ltb n openMost)
+      where
+        pick : (t : Bool) → Listless (cond t Bad (Open (settingOf vs)))
+        pick true = bad
+        pick false = opens (settingOf vs)
+    go Refused vs = bad
+
+nothing-listless : (ws : List (List ℕ)) (c : Command) → Listless c → Listless (nothing Bad ws c)
+nothing-listless [] c l = l
+nothing-listless (w ∷ ws) c l = bad
+
+read-listless : (r : Reading) (ws : List (List ℕ)) → Listless (readSays r ws)
+unfolding readSays
+read-listless r = number-holds Listless Bad _ _ bad (λ name ws. nothing-listless ws (Read r name) (reads r name))
+
+book-counted : (ws : List (List ℕ)) → Counted (bookSays ws)
+unfolding bookSays
+book-counted =
+    number-holds Counted (alone Bad) _ _ (listless-counted Bad bad)
+    (λ name. number-holds Counted (alone Bad) _ _ (listless-counted Bad bad) (λ slot ws. go name slot ws (manyOf nameOf parentsMost ws) refl))
+  where
+    go : (x s : ℕ) (ws : List (List ℕ)) (m : Many) → manyOf nameOf parentsMost ws ≡ m
+        → Counted (record { command = bookWith x s m; parents = leading nameOf parentsMost ws; votes = [] })
+    go x s ws (Count k) q =
+        record {
+          books = λ name slot n e.
+              let h : k ≡ n = cc in
+              (omega (arith, many-count nameOf parentsMost ws k q), omega (arith, many-count nameOf parentsMost ws k q, leading-length nameOf parentsMost ws));
+          polls = λ name n e. absurd (clash (cc));
+        }
+    go x s ws Refused q = record { books = λ name slot n e. absurd (clash (cc)); polls = λ name n e. absurd (clash (cc)) }
+
+poll-counted : (ws : List (List ℕ)) → Counted (pollSays ws)
+unfolding pollSays
+poll-counted = number-holds Counted (alone Bad) _ _ (listless-counted Bad bad) (λ name ws. go name ws (manyOf voteOf votesMost ws) refl)
+  where
+    go : (x : ℕ) (ws : List (List ℕ)) (m : Many) → manyOf voteOf votesMost ws ≡ m
+        → Counted (record { command = pollWith x m; parents = []; votes = leading voteOf votesMost ws })
+    go x ws (Count k) q =
+        record {
+          books = λ name slot n e. absurd (clash (cc));
+          polls = λ name n e.
+              let h : k ≡ n = cc in
+              (omega (arith, many-count voteOf votesMost ws k q), omega (arith, many-count voteOf votesMost ws k q, leading-length voteOf votesMost ws));
+        }
+    go x ws Refused q = record { books = λ name slot n e. absurd (clash (cc)); polls = λ name n e. absurd (clash (cc)) }
+
+keyword-counted : (k : Keyword) (ws : List (List ℕ)) → Counted (keywordSays k ws)
+keyword-counted openWord ws = listless-counted (openSays ws) (open-listless ws)
+keyword-counted bookWord ws = book-counted ws
+keyword-counted pollWord ws = poll-counted ws
+keyword-counted (readWord r) ws = listless-counted (readSays r ws) (read-listless r ws)
+keyword-counted listWord ws = listless-counted (nothing Bad ws ListAll) (nothing-listless ws ListAll lists)
+keyword-counted Unknown ws = listless-counted Bad bad
+
+pub line-counted : (line : List ℕ) → Counted (lineSays line)
+unfolding lineSays
+line-counted line = go (words line)
+  where
+    go : (ws : List (List ℕ)) → Counted (wordsSay ws)
+    go [] = listless-counted Bad bad
+    go (w ∷ ws) = keyword-counted (keywordOf w) ws
+
+-- the start of a buffer after a list was stored there
+take-sets : (buffer vs : List ℕ) → length vs ≤ length buffer → take (length vs) (sets buffer 0 vs) ≡ vs
+take-sets buffer vs h = ap (take (length vs)) (sets-eq vs buffer 0 (omega arith)) ∙ take-at vs (drop (0 + length vs) buffer) (length vs) refl
+
+pub take-stored : (buffer vs : List ℕ) (n : ℕ) → length vs ≡ n → n ≤ length buffer → take n (sets buffer 0 vs) ≡ vs
+take-stored buffer vs n e h = rw (← e) (take-sets buffer vs (omega arith))
+
+module _ {line parents votes : List ℕ} {r : Command} {parents′ votes′ : List ℕ} (p : Parsed line parents votes r parents′ votes′) where
+  pub parsed-parents : (name slot n : ℕ) → r ≡ Book name slot n → length parents ≡ parentsMost → (take n parents′ ≡ (lineSays line) .parents) × (n ≤ parentsMost)
+  parsed-parents name slot n e h =
+      let k = line-counted line .books name slot n (sym (p .answer) ∙ e) in (
+        ap (λ i. take i parents′) (k .0) ∙ ap (take (length ((lineSays line) .parents))) (p .parentsAfter) ∙ take-sets parents ((lineSays line) .parents) (omega (arith, k .0, k .1)),
+        k .1,
+      )
+
+  pub parsed-votes : (name n : ℕ) → r ≡ Poll name n → length votes ≡ votesMost → (take n votes′ ≡ (lineSays line) .votes) × (n ≤ votesMost)
+  parsed-votes name n e h =
+      let k = line-counted line .polls name n (sym (p .answer) ∙ e) in (
+        ap (λ i. take i votes′) (k .0) ∙ ap (take (length ((lineSays line) .votes))) (p .votesAfter) ∙ take-sets votes ((lineSays line) .votes) (omega (arith, k .0, k .1)),
+        k .1,
+      )

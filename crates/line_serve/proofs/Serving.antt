@@ -1,0 +1,92 @@
+-- A contract met: a call's words and answer, printed, are the effect of its command; and a line has the effect of what it says.
+use mathlib.Core.Path.{_≡_, refl, sym, ap, subst, _∙_}
+use mathlib.Core.Bool.{Bool, true, false}
+use mathlib.Core.List.{List}
+use Prim.Native.Nat.{ℕ, _+_, _≤_}
+use native.Mathlib.Omega.{arith}
+use lib.ListN.{length, take}
+use lib.Seq.{sets, length-sets}
+use Rattle.terms.specs.declared.answer.Answer.{Answer}
+use Rattle.terms.specs.declared.answer.Answer.the-variants.{Refused}
+use Rattle.terms.specs.declared.answer.Refusal.the-variants.{NotSound}
+use Rattle.terms.specs.declared.answer.Reading.{Reading}
+use Rattle.terms.specs.Answers.{Outcome, outcome, done}
+use Rattle.rules.specs.Layout.{size}
+use Rattle.rules.specs.IsSound.{isSound}
+use Rattle.rules.specs.Sound.{Ledger}
+use Rattle.rules.specs.Calls.{readBy}
+use Rattle.rules.specs.Listing.{listCall}
+use Rattle.rule_laws.proofs.Tested.{tested-known, tested-sound}
+use Rattle.text_put.specs.Put.{Put}
+use Rattle.text_print.specs.Print.{callPrints, readingPrints}
+use Rattle.line_parse.specs.declared.command.Command.{Command}
+use Rattle.line_parse.specs.Line.{lineSays}
+use Rattle.line_parse.proofs.Counts.{take-stored}
+use Rattle.text_listing.specs.Listed.{listPrints, lineMost}
+use Rattle.text_listing.proofs.Rows.{list-length}
+use Rattle.line_serve.specs.declared.Served.{Served}
+use Rattle.line_serve.specs.Serve.{Effect, called, asked, listShows, listed, commandDoes, served, Serves}
+use Rattle.line_serve.proofs.Short.{call-length, reading-length, refusal-length}
+
+module _ {out out′ : List ℕ} {at : ℕ} {r : Served} where
+  -- an opening, a booking or a poll
+  pub serves-called : {w′ : List ℕ} (a : Answer) {o : Outcome} → outcome a w′ ≡ o → Put out at (callPrints a) (r .at) out′
+      → r .known ≡ isSound w′ → Serves (called o) out at r w′ out′
+  serves-called a e p k =
+      record {
+        left = ap (λ o. o .words) e;
+        put = subst (λ o. Put out at (callPrints (o .answer)) (r .at) out′) e p;
+        within = omega (arith, p .next, call-length a);
+        told = k;
+      }
+
+  pub serves-asked : (w : List ℕ) (what : Reading) (name : ℕ) {a : Answer} → a ≡ readBy isSound what w name
+      → Put out at (readingPrints a) (r .at) out′ → r .known ≡ isSound w → Serves (asked w (readBy isSound what w name)) out at r w out′
+  serves-asked w what name e p k =
+      let put = subst (λ a. Put out at (readingPrints a) (r .at) out′) e p in
+      record { left = refl; put = put; within = omega (arith, put .next, reading-length what w name); told = k }
+
+  pub serves-listed : (w : List ℕ) → Ledger w → Put out at (listPrints w) (r .at) out′ → r .known ≡ isSound w → Serves (listed w) out at r w out′
+  unfolding listCall
+  serves-listed w l p k =
+      record {
+        left = refl;
+        put = subst (λ a. Put out at (listShows a w) (r .at) out′) (sym (tested-known w l done)) p;
+        within = omega (arith, p .next, list-length w l);
+        told = k;
+      }
+
+  -- a workspace that is not sound has no listing
+  pub serves-unlisted : (w : List ℕ) → length w ≡ size → isSound w ≡ false → Put out at (callPrints (Refused NotSound)) (r .at) out′
+      → r .known ≡ isSound w → Serves (listed w) out at r w out′
+  unfolding listCall
+  serves-unlisted w h f p k =
+      record {
+        left = refl;
+        put = subst (λ a. Put out at (listShows a w) (r .at) out′) (sym (tested-sound w h f done)) p;
+        within = omega (arith, p .next, refusal-length NotSound);
+        told = k;
+      }
+
+  pub serves-as : {w′ : List ℕ} {e f : Effect} → e ≡ f → Serves e out at r w′ out′ → Serves f out at r w′ out′
+  serves-as {w′} q s = subst (λ e. Serves e out at r w′ out′) q s
+
+-- ---- the effect of a line
+
+pub served-does : (w line : List ℕ) (c : Command) → (lineSays line) .command ≡ c
+    → commandDoes c ((lineSays line) .parents) ((lineSays line) .votes) w ≡ served w line
+unfolding served
+served-does w line c e = ap (λ x. commandDoes x ((lineSays line) .parents) ((lineSays line) .votes) w) (sym e)
+
+-- ---- the lists of a line stand at the start of their buffers
+
+pub record Stored (n : ℕ) (buffer vs : List ℕ) : Type 0 where
+  pub fits : n ≤ length buffer
+  pub start : take n buffer ≡ vs
+
+pub stored : (l : List ℕ) {buffer vs : List ℕ} {n : ℕ} → buffer ≡ sets l 0 vs → length vs ≡ n → n ≤ length l → Stored n buffer vs
+stored l {buffer} {vs} {n} e k h =
+    record {
+      fits = subst (λ m. n ≤ m) (sym (ap length e ∙ length-sets l 0 vs)) h;
+      start = ap (take n) e ∙ take-stored l vs n k h;
+    }

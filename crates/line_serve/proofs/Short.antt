@@ -1,0 +1,59 @@
+-- No line prints more than the longest listing.
+use mathlib.Core.Path.{_≡_, refl, sym, ap, subst, _∙_}
+use mathlib.Core.Bool.{Bool, true, false}
+use mathlib.Core.List.{List, [], _∷_, _++_}
+use Prim.Native.Nat.{ℕ, _+_, _^_, _<_, _≤_}
+use native.Mathlib.Omega.{arith}
+use lib.IntN.{ℤ, pos, natAbs}
+use lib.ListN.{length, length-append}
+use Rattle.terms.specs.declared.answer.Refusal.{Refusal}
+use Rattle.terms.specs.declared.answer.Answer.{Answer}
+use Rattle.terms.specs.declared.answer.Answer.the-variants.{Taken, Refused}
+use Rattle.terms.specs.declared.answer.Reading.{Reading}
+use Rattle.terms.specs.declared.answer.Reading.the-variants.{Query, Accepted, Lead, Confidence, Size}
+use Rattle.terms.specs.Answers.{refusalNumber, number, value}
+use Rattle.rules.specs.IsSound.{isSound}
+use Rattle.rules.specs.Calls.{readBy, queryCall, acceptedCall, leadCall, confidenceCall, sizeCall}
+use Rattle.rule_laws.proofs.Calls.{refusalNumber-within}
+use Rattle.text_bytes.specs.Bytes.{lineFeed}
+use Rattle.text_put.specs.Decimal.{decimal, sign, signed}
+use Rattle.text_print.specs.Print.{refusedText, refusalPrints, readingPrints, callPrints, answerMost}
+use Rattle.text_put.proofs.Decimals.{decimal-length}
+use Rattle.text_put.proofs.Signs.{sign-length}
+use Rattle.promises.specs.Ranges.{Between}
+use Rattle.promises.proofs.Ranges.{ranges}
+
+pub refusal-length : (r : Refusal) → length (refusalPrints r) ≤ answerMost
+refusal-length r =
+    simp length-append (omega (arith, decimal-length (refusalNumber r) (omega (arith, refusalNumber-within r .1))))
+
+pub call-length : (a : Answer) → length (callPrints a) ≤ answerMost
+call-length (Taken v) = omega arith
+call-length (Refused r) = refusal-length r
+
+-- ---- readings
+
+value-length : (a : Answer) → natAbs (value a) ≤ 512 → length (readingPrints a) ≤ answerMost
+unfolding signed
+value-length (Taken v) h =
+    simp length-append (omega (arith, sign-length v, decimal-length (natAbs v) (omega arith)))
+value-length (Refused r) h = refusal-length r
+
+between-natAbs : {least most : ℕ} {z : ℤ} → Between least most z → natAbs z ≤ most
+between-natAbs {most = most} b = subst (λ y. natAbs y ≤ most) (sym (b .is)) (b .below)
+
+-- a refused size has value 0, and a taken one is that of an ancestry
+size-natAbs : (a : Answer) → (number a ≡ 0 → Between 1 512 (value a)) → natAbs (value a) ≤ 512
+size-natAbs (Taken v) h = between-natAbs (h refl)
+size-natAbs (Refused r) h = omega arith
+
+reading-natAbs : (what : Reading) (w : List ℕ) (name : ℕ) → natAbs (value (readBy isSound what w name)) ≤ 512
+unfolding queryCall acceptedCall leadCall confidenceCall sizeCall
+reading-natAbs Query w name = omega (arith, between-natAbs (ranges .query w name))
+reading-natAbs Accepted w name = omega (arith, between-natAbs (ranges .accepted w name))
+reading-natAbs Lead w name = omega (arith, ranges .lead w name)
+reading-natAbs Confidence w name = omega (arith, between-natAbs (ranges .confidence w name))
+reading-natAbs Size w name = size-natAbs (readBy isSound Size w name) (ranges .size w name)
+
+pub reading-length : (what : Reading) (w : List ℕ) (name : ℕ) → length (readingPrints (readBy isSound what w name)) ≤ answerMost
+reading-length what w name = value-length (readBy isSound what w name) (reading-natAbs what w name)

@@ -1,0 +1,74 @@
+-- Document 01, "The text program": what one line does to the words, and what it prints.
+use Prim.Native.Nat.{ℕ, _+_, _≤_}
+use mathlib.Core.Path.{_≡_}
+use mathlib.Core.Bool.{Bool}
+use mathlib.Core.List.{List}
+use lib.ListN.{length}
+use Rattle.terms.specs.declared.answer.Answer.{Answer}
+use Rattle.terms.specs.declared.answer.Answer.the-variants.{Taken, Refused}
+use Rattle.terms.specs.Answers.{Outcome}
+use Rattle.rules.specs.Layout.{size}
+use Rattle.rules.specs.IsSound.{isSound}
+use Rattle.rules.specs.Calls.{openCall, bookCall, pollCall, readBy}
+use Rattle.rules.specs.Listing.{listCall}
+use Rattle.text_put.specs.Put.{Put}
+use Rattle.text_print.specs.Print.{badLine, refusalPrints, readingPrints, callPrints}
+use Rattle.line_parse.specs.declared.command.Command.{Command}
+use Rattle.line_parse.specs.declared.command.Command.the-variants.{Open, Book, Poll, Read, List as ListAll, Bad}
+use Rattle.line_parse.specs.Line.{Said, lineSays}
+use Rattle.text_listing.specs.Listed.{listPrints, lineMost}
+use Rattle.line_serve.specs.declared.Served.{Served}
+
+-- the words that a line leaves, and the bytes that it prints
+pub record Effect : Type 0 where
+  pub words : List ℕ
+  pub prints : List ℕ
+
+-- a refusal prints its number, other taken calls print nothing
+abbrev pub called : Outcome → Effect
+called o = record { words = o .words; prints = callPrints (o .answer) }
+
+-- a reading prints its value
+abbrev pub asked : List ℕ → Answer → Effect
+asked w a = record { words = w; prints = readingPrints a }
+
+-- a taken `list` prints the listing
+abbrev pub listShows : Answer → List ℕ → List ℕ
+listShows (Taken v) w = listPrints w
+listShows (Refused r) w = refusalPrints r
+
+abbrev pub listed : List ℕ → Effect
+listed w = record { words = w; prints = listShows (listCall w) w }
+
+-- anything else
+abbrev pub bad : List ℕ → Effect
+bad w = record { words = w; prints = badLine }
+
+abbrev pub commandDoes : Command → (parents votes w : List ℕ) → Effect
+commandDoes (Open s) parents votes w = called (openCall w s)
+commandDoes (Book name slot count) parents votes w = called (bookCall w name slot parents)
+commandDoes (Poll name count) parents votes w = called (pollCall w name votes)
+commandDoes (Read what name) parents votes w = asked w (readBy isSound what w name)
+commandDoes ListAll parents votes w = listed w
+commandDoes Bad parents votes w = bad w
+
+abbrev pub saidDoes : Said → List ℕ → Effect
+saidDoes said w = commandDoes (said .command) (said .parents) (said .votes) w
+
+unfoldable pub served : List ℕ → List ℕ → Effect
+served w line = saidDoes (lineSays line) w
+
+-- ---- the contract of every function that serves
+
+-- whether the workspace is sound is known, and there is room for the longest that a line prints
+pub record Ready (w : List ℕ) (known : Bool) (out : List ℕ) (at : ℕ) : Type 0 where
+  pub whole : length w ≡ size
+  pub told : known ≡ isSound w
+  pub room : at + lineMost ≤ length out
+
+-- the words and the bytes are those of the effect, and whether the words are sound is known again
+pub record Serves (e : Effect) (out : List ℕ) (at : ℕ) (r : Served) (w′ out′ : List ℕ) : Type 0 where
+  pub left : w′ ≡ e .words
+  pub put : Put out at (e .prints) (r .at) out′
+  pub within : r .at ≤ at + lineMost
+  pub told : r .known ≡ isSound w′

@@ -1,0 +1,33 @@
+// The poll is noted; on success the members of the ancestry are raised, and then each is settled.
+use rules::layout;
+ghost use mathlib.Core.Path.{_≡_};
+ghost use Prim.Native.Nat.{_<_};
+ghost use lib.ListN.{length};
+ghost use Rattle.rules.specs.Layout.{mostBookings, bookings};
+ghost use Rattle.rules.specs.Sound.{Ledger};
+ghost use Rattle.rules.specs.Poll.{failed};
+ghost use Rattle.poll_writes.specs.Marked.{succeededWith};
+
+// The states that a poll writes, as terms::vote reads them.
+const FAILED: u16 = 1;
+
+const CHIT: u16 = 2;
+
+// The state becomes 1, and nothing else but p and the ordinal moves.
+pub fn write_failure(w: &mut [u16], i: usize)
+    requires { ⌜ Ledger (now w) × (i < bookings (now w)) ⌝ }
+    ensures { λ _. ⌜ now (w .exit) ≡ failed (now (w .entry)) i ⌝ }
+{
+    writes::raising::note(w, i, FAILED);
+}
+
+// The state becomes 2; every member of the marks is raised, and only then each is settled.
+pub fn write_success(w: &mut [u16], marks: &[u8], i: usize)
+    requires { ⌜ Ledger (now w) × (i < bookings (now w)) × (length (now marks) ≡ mostBookings) ⌝ }
+    ensures { λ _. ⌜ now (w .exit) ≡ succeededWith (now (marks .entry)) (now (w .entry)) i ⌝ }
+{
+    let n = words::wide(words::header(w, layout::BOOKINGS));
+    writes::raising::note(w, i, CHIT);
+    writes::raising::raise(w, marks, n);
+    writes::settling::settle(w, marks, n);
+}

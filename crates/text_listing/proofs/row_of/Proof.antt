@@ -1,0 +1,66 @@
+-- Each field is what its reader says; the mark of booking i among all accepted ones is its acceptance.
+use borrow.Author.Needs.{needs}
+use Rattle.rules.specs.Layout.{bookings}
+use Rattle.rules.specs.Listing.{listRow}
+use Rattle.rule_laws.proofs.Accepted.{acceptedBelow-is}
+use Rattle.text_listing.proofs.row_of.Statement.{statement}
+use Rattle.text_listing.proofs.row_of.Tie as tie
+
+slot-of-requires : tie.Need-slot-of-requires
+slot-of-requires c κs = search needs
+
+wide-field-requires : tie.Need-wide-field-requires
+wide-field-requires c κs = search needs
+
+confidence-of-requires : tie.Need-confidence-of-requires
+confidence-of-requires c κs = search needs
+
+wide-requires : tie.Need-wide-requires
+wide-requires c κs = search needs
+
+is-preferred-requires : tie.Need-is-preferred-requires
+is-preferred-requires c κs = search needs
+
+flag-requires : tie.Need-flag-requires
+flag-requires c κs = search needs
+
+is-member-requires : tie.Need-is-member-requires
+is-member-requires c κs = search needs
+
+flag-requires-2 : tie.Need-flag-requires-2
+flag-requires-2 c κs = search needs
+
+returns : tie.Need-returns
+unfolding listRow
+returns c =
+    let P = c .before .before .before in
+    let C = P .before .before in
+    let G = C .before in
+    let S = G .before .before .before .before in
+    let w = S .args .w .now in
+    rw (
+      c .flag2 .ensures,
+      c .before .is-member .ensures,
+      S .pre .2,
+      acceptedBelow-is w (bookings w) (S .args .i) (S .pre .1),
+      c .before .before .flag .ensures,
+      P .is-preferred .ensures,
+      P .before .wide .ensures .0,
+      C .confidence-of .ensures,
+      G .wide-field .ensures,
+      G .before .slot-of .ensures,
+    )
+
+pub row-of-spec : {M : Type 1} → statement M
+row-of-spec =
+    tie.close
+    (tie.spec
+    slot-of-requires
+    wide-field-requires
+    confidence-of-requires
+    wide-requires
+    is-preferred-requires
+    flag-requires
+    is-member-requires
+    flag-requires-2
+    returns)
