@@ -14,7 +14,7 @@ use Rattle.terms.specs.declared.answer.Refusal.the-variants.{UnknownParent}
 use Rattle.rules.specs.Layout.{mostParents, none}
 use Rattle.terms.specs.Answers.{done}
 use Rattle.rules.specs.Book.{isAbsent, parentFound, hasUnknown}
-use Rattle.writes.specs.Numbered.{parentNumbers}
+use Rattle.rules.specs.Book.{parentNumbers}
 use Rattle.known_book_parents.specs.Parents.{firstUnknown, withNumbers, Looked, isRefusal}
 
 -- four unused places, filled from the first on

@@ -4,15 +4,14 @@ use mathlib.Core.Path.{_≡_}
 use mathlib.Core.Bool.{Bool, true, false, cond}
 use mathlib.Core.List.{List}
 use lib.ListN.{length, set}
-use lib.Dec.{eqb}
 use Rattle.loops.specs.Search.{first}
 use Rattle.loops.specs.Turns.{upTo}
 use Rattle.terms.specs.declared.answer.Answer.{Answer}
 use Rattle.terms.specs.declared.answer.Answer.the-variants.{Taken, Refused}
-use Rattle.terms.specs.declared.answer.Refusal.the-variants.{UnknownParent, ParentTwice, Full}
-use Rattle.rules.specs.Layout.{bookings, mostBookings}
+use Rattle.terms.specs.declared.answer.Refusal.the-variants.{UnknownParent}
 use Rattle.terms.specs.Answers.{Outcome, leaves, done}
-use Rattle.rules.specs.Book.{isAbsent, numberOf, parentFound, hasUnknown, hasTwice, booked}
+use Rattle.rules.specs.Book.{isAbsent, numberOf, parentFound, hasUnknown, booked}
+use Rattle.rules.specs.Calls.{parentsAnswer}
 
 -- the first parent whose name isn't booked; how many parents there are where each is
 abbrev pub firstUnknown : List ℕ → List ℕ → ℕ
@@ -31,14 +30,6 @@ abbrev pub isRefusal : Answer → Bool
 isRefusal (Taken v) = false
 isRefusal (Refused x) = true
 
--- refusals 7, 8 and 9: what is left of a booking's refusals once its name, its slot and the number of its parents pass
-abbrev pub parentsAnswer : List ℕ → List ℕ → Answer
-parentsAnswer w parents =
-    cond (hasUnknown w parents) (Refused UnknownParent)
-    (cond (hasTwice parents) (Refused ParentTwice)
-    (cond (eqb (bookings w) mostBookings) (Refused Full)
-    done))
-
--- a refusal leaves every word, and a taken call the booking
+-- what is left of a booking once its name, its slot and the number of its parents pass
 unfoldable pub parentsCall : List ℕ → ℕ → ℕ → List ℕ → Outcome
 parentsCall w name slot parents = leaves (parentsAnswer w parents) w (booked w name slot parents)

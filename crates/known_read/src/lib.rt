@@ -10,7 +10,7 @@ ghost use Rattle.loops.specs.Total.{bit};
 ghost use Rattle.rules.specs.Layout.{bookings, confidenceOf};
 ghost use Rattle.rules.specs.Readings.{sizeOf, readingOf};
 ghost use Rattle.rules.specs.Sound.{Ledger};
-ghost use Rattle.rules.specs.Calls.{readingCall};
+ghost use Rattle.rules.specs.Calls.{readCall};
 
 // 1 for yes, 0 for no.
 fn flag(b: bool) -> i64
@@ -50,7 +50,7 @@ fn value_of(w: &[u16], i: usize, what: Reading) -> i64
 // The reading of the booking with the name, or refusal 10.
 pub fn ask(w: &[u16], name: u64, what: Reading) -> Answer
     requires { ⌜ Ledger (now w) ⌝ }
-    ensures { λ r. ⌜ r ≡ readingCall (readingOf what (now (w .entry))) (now (w .entry)) name ⌝ }
+    ensures { λ r. ⌜ r ≡ readCall what (now (w .entry)) name ⌝ }
 {
     let Found::At(i) = booking_reads::booking::find(w, name) else {
         return Answer::Refused(Refusal::UnknownName);

@@ -1,14 +1,14 @@
 // THE PUBLIC CALLS. Each takes any lent words and any arguments, needs no check first, and settles answer and words by the law.
-// The readings stand in `reads` and are passed on.
+// The readings stand in `ledger_reads` and are passed on.
 pub use ledger_reads::accepted;
 pub use ledger_reads::confidence;
 pub use ledger_reads::lead;
 pub use ledger_reads::query;
 pub use ledger_reads::size;
-use ledger_test::Tested;
 use rules::layout;
 use terms::answer::Answer;
 use terms::answer::Refusal;
+use terms::answer::Tested;
 use terms::setting::Setting;
 ghost use mathlib.Core.Path.{_≡_};
 ghost use Rattle.terms.specs.Answers.{outcome};

@@ -1,14 +1,13 @@
 // THE PUBLIC READINGS. Each takes any lent words and any name, needs no check first, and answers by the law. `ledger` passes them on.
-use ledger_test::Tested;
 use terms::answer::Answer;
 use terms::answer::Reading;
+use terms::answer::Tested;
 ghost use mathlib.Core.Path.{_≡_};
-ghost use Rattle.rules.specs.Readings.{readingOf};
-ghost use Rattle.rules.specs.Calls.{readingCall, queryCall, acceptedCall, leadCall, confidenceCall, sizeCall};
+ghost use Rattle.rules.specs.Calls.{readCall, queryCall, acceptedCall, leadCall, confidenceCall, sizeCall};
 
 // A reading by name. Refusals 1, 2, 10, which all five share.
 fn read(w: &[u16], name: u64, what: Reading) -> Answer
-    ensures { λ r. ⌜ r ≡ readingCall (readingOf what (now (w .entry))) (now (w .entry)) name ⌝ }
+    ensures { λ r. ⌜ r ≡ readCall what (now (w .entry)) name ⌝ }
 {
     match ledger_test::test(w) {
         Tested::Stop(refusal) => Answer::Refused(refusal),

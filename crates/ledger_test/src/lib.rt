@@ -1,15 +1,11 @@
 // What every public call but open asks first, once: is the lent memory a ledger.
 use rules::layout;
 use terms::answer::Refusal;
+use terms::answer::Tested;
 ghost use mathlib.Core.Path.{_≡_};
-ghost use Rattle.ledger_test.specs.Test.{testOf};
+ghost use Rattle.rules.specs.Calls.{testOf};
 
 // Whether a workspace is a ledger, or which of refusals 1 and 2 stops the call.
-pub enum Tested {
-    Fine,
-    Stop(Refusal),
-}
-
 pub fn test(w: &[u16]) -> Tested
     ensures { λ r. ⌜ r ≡ testOf (now (w .entry)) ⌝ }
 {

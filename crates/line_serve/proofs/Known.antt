@@ -15,7 +15,7 @@ use Rattle.terms.specs.Setting.{isGood}
 use Rattle.rules.specs.IsSound.{isSound, headerGood}
 use Rattle.rules.specs.Open.{opened}
 use Rattle.rules.specs.Sound.{Ledger}
-use Rattle.rules.specs.Calls.{tested, openCall, bookCall, pollCall}
+use Rattle.rules.specs.Calls.{testOf, tested, openCall, bookCall, pollCall}
 use Rattle.rule_laws.proofs.Sound.{isSound→Sound, Sound→isSound}
 use Rattle.rule_laws.proofs.Tested.{tested-sound}
 use Rattle.promises.specs.Run.{Book, Poll, outcomeOf}
@@ -33,7 +33,7 @@ zeros-unsound = refl
 -- ---- a workspace that is not sound keeps every word
 
 module _ (w : List ℕ) (h : length w ≡ size) (f : isSound w ≡ false) where
-  pub unsound-leaves : (after : List ℕ) (rest : Answer) → leaves (tested isSound w rest) w after ≡ outcome (Refused NotSound) w
+  pub unsound-leaves : (after : List ℕ) (rest : Answer) → leaves (tested testOf w rest) w after ≡ outcome (Refused NotSound) w
   unsound-leaves after rest = ap (λ a. leaves a w after) (tested-sound w h f rest)
 
   pub unsound-book : (name slot : ℕ) (parents : List ℕ) → bookCall w name slot parents ≡ outcome (Refused NotSound) w

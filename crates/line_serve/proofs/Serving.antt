@@ -14,7 +14,7 @@ use Rattle.terms.specs.Answers.{Outcome, outcome, done}
 use Rattle.rules.specs.Layout.{size}
 use Rattle.rules.specs.IsSound.{isSound}
 use Rattle.rules.specs.Sound.{Ledger}
-use Rattle.rules.specs.Calls.{readBy}
+use Rattle.rules.specs.Calls.{readCall}
 use Rattle.rules.specs.Listing.{listCall}
 use Rattle.rule_laws.proofs.Tested.{tested-known, tested-sound}
 use Rattle.text_put.specs.Put.{Put}
@@ -40,8 +40,8 @@ module _ {out out′ : List ℕ} {at : ℕ} {r : Served} where
         told = k;
       }
 
-  pub serves-asked : (w : List ℕ) (what : Reading) (name : ℕ) {a : Answer} → a ≡ readBy isSound what w name
-      → Put out at (readingPrints a) (r .at) out′ → r .known ≡ isSound w → Serves (asked w (readBy isSound what w name)) out at r w out′
+  pub serves-asked : (w : List ℕ) (what : Reading) (name : ℕ) {a : Answer} → a ≡ readCall what w name
+      → Put out at (readingPrints a) (r .at) out′ → r .known ≡ isSound w → Serves (asked w (readCall what w name)) out at r w out′
   serves-asked w what name e p k =
       let put = subst (λ a. Put out at (readingPrints a) (r .at) out′) e p in
       record { left = refl; put = put; within = omega (arith, put .next, reading-length what w name); told = k }

@@ -12,8 +12,7 @@ use Rattle.terms.specs.declared.answer.Answer.the-variants.{Taken, Refused}
 use Rattle.terms.specs.declared.answer.Reading.{Reading}
 use Rattle.terms.specs.declared.answer.Reading.the-variants.{Query, Accepted, Lead, Confidence, Size}
 use Rattle.terms.specs.Answers.{refusalNumber, number, value}
-use Rattle.rules.specs.IsSound.{isSound}
-use Rattle.rules.specs.Calls.{readBy, queryCall, acceptedCall, leadCall, confidenceCall, sizeCall}
+use Rattle.rules.specs.Calls.{readCall}
 use Rattle.rule_laws.proofs.Calls.{refusalNumber-within}
 use Rattle.text_bytes.specs.Bytes.{lineFeed}
 use Rattle.text_put.specs.Decimal.{decimal, sign, signed}
@@ -47,13 +46,12 @@ size-natAbs : (a : Answer) → (number a ≡ 0 → Between 1 512 (value a)) → 
 size-natAbs (Taken v) h = between-natAbs (h refl)
 size-natAbs (Refused r) h = omega arith
 
-reading-natAbs : (what : Reading) (w : List ℕ) (name : ℕ) → natAbs (value (readBy isSound what w name)) ≤ 512
-unfolding queryCall acceptedCall leadCall confidenceCall sizeCall
+reading-natAbs : (what : Reading) (w : List ℕ) (name : ℕ) → natAbs (value (readCall what w name)) ≤ 512
 reading-natAbs Query w name = omega (arith, between-natAbs (ranges .query w name))
 reading-natAbs Accepted w name = omega (arith, between-natAbs (ranges .accepted w name))
 reading-natAbs Lead w name = omega (arith, ranges .lead w name)
 reading-natAbs Confidence w name = omega (arith, between-natAbs (ranges .confidence w name))
-reading-natAbs Size w name = size-natAbs (readBy isSound Size w name) (ranges .size w name)
+reading-natAbs Size w name = size-natAbs (readCall Size w name) (ranges .size w name)
 
-pub reading-length : (what : Reading) (w : List ℕ) (name : ℕ) → length (readingPrints (readBy isSound what w name)) ≤ answerMost
-reading-length what w name = value-length (readBy isSound what w name) (reading-natAbs what w name)
+pub reading-length : (what : Reading) (w : List ℕ) (name : ℕ) → length (readingPrints (readCall what w name)) ≤ answerMost
+reading-length what w name = value-length (readCall what w name) (reading-natAbs what w name)

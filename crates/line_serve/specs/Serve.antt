@@ -9,7 +9,7 @@ use Rattle.terms.specs.declared.answer.Answer.the-variants.{Taken, Refused}
 use Rattle.terms.specs.Answers.{Outcome}
 use Rattle.rules.specs.Layout.{size}
 use Rattle.rules.specs.IsSound.{isSound}
-use Rattle.rules.specs.Calls.{openCall, bookCall, pollCall, readBy}
+use Rattle.rules.specs.Calls.{openCall, bookCall, pollCall, readCall}
 use Rattle.rules.specs.Listing.{listCall}
 use Rattle.text_put.specs.Put.{Put}
 use Rattle.text_print.specs.Print.{badLine, refusalPrints, readingPrints, callPrints}
@@ -48,7 +48,7 @@ abbrev pub commandDoes : Command → (parents votes w : List ℕ) → Effect
 commandDoes (Open s) parents votes w = called (openCall w s)
 commandDoes (Book name slot count) parents votes w = called (bookCall w name slot parents)
 commandDoes (Poll name count) parents votes w = called (pollCall w name votes)
-commandDoes (Read what name) parents votes w = asked w (readBy isSound what w name)
+commandDoes (Read what name) parents votes w = asked w (readCall what w name)
 commandDoes ListAll parents votes w = listed w
 commandDoes Bad parents votes w = bad w
 

@@ -9,7 +9,7 @@ ghost use lib.ListN.{length};
 ghost use Rattle.terms.specs.Answers.{outcome};
 ghost use Rattle.rules.specs.Layout.{size};
 ghost use Rattle.rules.specs.IsSound.{isSound};
-ghost use Rattle.rules.specs.Calls.{openCall, bookCall, pollCall, readBy};
+ghost use Rattle.rules.specs.Calls.{openCall, bookCall, pollCall, readCall};
 ghost use Rattle.line_serve.specs.Serve.{called, asked, listed, bad, served, Ready, Serves};
 
 // The offset after what was printed, and whether the workspace is sound now.
@@ -91,7 +91,7 @@ fn serve_poll(
 // A reading of a workspace that is known to be sound or not.
 fn read(w: &[u16], known: bool, name: u64, what: Reading) -> Answer
     requires { ⌜ (length (now w) ≡ size) × (known ≡ isSound (now w)) ⌝ }
-    ensures { λ r. ⌜ r ≡ readBy isSound what (now (w .entry)) name ⌝ }
+    ensures { λ r. ⌜ r ≡ readCall what (now (w .entry)) name ⌝ }
 {
     if known {
         known_read::ask(w, name, what)
@@ -102,7 +102,7 @@ fn read(w: &[u16], known: bool, name: u64, what: Reading) -> Answer
 
 fn serve_read(w: &[u16], known: bool, name: u64, what: Reading, out: &mut [u8], at: usize) -> Served
     requires { ⌜ Ready (now w) known (now out) at ⌝ }
-    ensures { λ r. ⌜ Serves (asked (now (w .entry)) (readBy isSound what (now (w .entry)) name)) (now (out .entry)) at r (now (w .entry)) (now (out .exit)) ⌝ }
+    ensures { λ r. ⌜ Serves (asked (now (w .entry)) (readCall what (now (w .entry)) name)) (now (out .entry)) at r (now (w .entry)) (now (out .exit)) ⌝ }
 {
     let answer = read(w, known, name, what);
     let next = text_print::put_reading(out, at, answer);

@@ -5,8 +5,7 @@ ghost use Prim.Native.Nat.{_<_};
 ghost use lib.ListN.{length};
 ghost use Rattle.rules.specs.Layout.{mostBookings, bookings};
 ghost use Rattle.rules.specs.Sound.{Ledger};
-ghost use Rattle.rules.specs.Poll.{failed};
-ghost use Rattle.poll_writes.specs.Marked.{succeededWith};
+ghost use Rattle.rules.specs.Poll.{failed, succeededWith};
 
 // The states that a poll writes, as terms::vote reads them.
 const FAILED: u16 = 1;

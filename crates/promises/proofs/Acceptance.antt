@@ -63,7 +63,6 @@ bit-one false e = absurd (omega arith)
 
 -- a 1 is answered of an accepted booking of a ledger
 answered-one : (w : List ℕ) (i : ℕ) → i < bookings w → acceptedCall w (nameOf w i) ≡ Taken (pos 1) → Ledger w × (acceptedOf w i ≡ true)
-unfolding acceptedCall
 answered-one w i h e =
     let taken = reading-taken (λ k. pos (bit (acceptedOf w k))) w (nameOf w i) (pos 1) e in
     let number : numberOf (lookUp w (nameOf w i)) ≡ i = ap numberOf (found-is w (taken .0 .sound) i h) in

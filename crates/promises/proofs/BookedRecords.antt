@@ -30,7 +30,7 @@ use Rattle.rules.specs.Layout.{
 }
 use Rattle.rules.specs.IsSound.{chits, bookingsOf}
 use Rattle.rules.specs.Sound.{Booking, Ledger}
-use Rattle.rules.specs.Book.{numberOf, parentFound, newRecord, booked}
+use Rattle.rules.specs.Book.{numberOf, parentFound, parentNumbers, newRecord, booked}
 use Rattle.rule_laws.proofs.Lookup.{parent-found, parent-below, found-name}
 use Rattle.promises.proofs.Taken.{Bookable}
 use Rattle.promises.proofs.Unchanged.{Booking-kept}
@@ -80,10 +80,10 @@ module _ (w : List ℕ) (name slot : ℕ) (parents : List ℕ) where
 
     -- a sum by one field has the new record's part more
     pub total-booked : (f : ℕ → ℕ) (g : ℕ) → g < recordWords
-        → total (λ i. f (field after i g)) (bookings after) ≡ total (λ i. f (field w i g)) (bookings w) + f (getD (newRecord w name slot parents) g 0)
+        → total (λ i. f (field after i g)) (bookings after) ≡ total (λ i. f (field w i g)) (bookings w) + f (getD (newRecord name slot (parentNumbers w parents)) g 0)
     total-booked f g h =
         rw (bookings-booked w name slot parents (ledger .whole), total-more, field-booked-same w name slot parents (ledger .whole) (bookable .room) g h)
-        (ap (λ x. x + f (getD (newRecord w name slot parents) g 0))
+        (ap (λ x. x + f (getD (newRecord name slot (parentNumbers w parents)) g 0))
         (total-same (λ i. f (field after i g)) (λ i. f (field w i g)) (bookings w) (λ i u. ap f (field-booked-old i g u h))))
 
     -- the new booking is in state 0

@@ -37,7 +37,7 @@ use Rattle.rules.specs.Layout.{
   ordinalOf,
   heldIn,
 }
-use Rattle.rules.specs.Book.{parentNumber, newRecord, entered, booked}
+use Rattle.rules.specs.Book.{parentNumber, parentNumbers, newRecord, entered, booked}
 use Rattle.rule_laws.proofs.Bookings.{at-place}
 use Rattle.rule_laws.proofs.Words.{
   length-withHeader,
@@ -71,13 +71,13 @@ parts-join name = omega arith
 module _ (w : List ℕ) (name slot : ℕ) (parents : List ℕ) where
   -- with the record written, and then with the slot entered too
   abbrev recorded : List ℕ
-  recorded = sets w (recordAt (bookings w) 0) (newRecord w name slot parents)
+  recorded = sets w (recordAt (bookings w) 0) (newRecord name slot (parentNumbers w parents))
 
   abbrev placed : List ℕ
   placed = entered slot (bookings w) recorded
 
   length-recorded : length recorded ≡ length w
-  length-recorded = length-setsRecord w (bookings w) (newRecord w name slot parents)
+  length-recorded = length-setsRecord w (bookings w) (newRecord name slot (parentNumbers w parents))
 
   length-placed : length placed ≡ length w
   length-placed = length-entered slot (bookings w) recorded ∙ length-recorded
@@ -97,7 +97,7 @@ module _ (w : List ℕ) (name slot : ℕ) (parents : List ℕ) where
   header-booked-kept g l h =
       header-withHeader-other placed bookingsField (bookings w + 1) g (omega arith)
       ∙ header-entered-kept slot (bookings w) recorded g h
-      ∙ header-setsRecord-kept w (bookings w) (newRecord w name slot parents) g h
+      ∙ header-setsRecord-kept w (bookings w) (newRecord name slot (parentNumbers w parents)) g h
 
   pub polls-booked : polls (booked w name slot parents) ≡ polls w
   polls-booked = header-booked-kept pollsField (omega arith) (omega arith)
@@ -113,7 +113,7 @@ module _ (w : List ℕ) (name slot : ℕ) (parents : List ℕ) where
     field-booked-other g h =
         field-withHeader-kept placed bookingsField (bookings w + 1) j g (omega arith)
         ∙ field-entered-kept slot (bookings w) recorded j g within h
-        ∙ field-setsRecord-other w (bookings w) (newRecord w name slot parents) j g (omega arith) h another
+        ∙ field-setsRecord-other w (bookings w) (newRecord name slot (parentNumbers w parents)) j g (omega arith) h another
 
     pub nameOf-booked-other : nameOf (booked w name slot parents) j ≡ nameOf w j
     nameOf-booked-other = nameOf-kept w (booked w name slot parents) j j (λ g h. field-booked-other g (omega arith))
@@ -121,12 +121,12 @@ module _ (w : List ℕ) (name slot : ℕ) (parents : List ℕ) where
   -- ---- the new record
 
   module _ (whole : length w ≡ size) (room : bookings w < mostBookings) where
-    pub field-booked-same : (g : ℕ) → g < recordWords → field (booked w name slot parents) (bookings w) g ≡ getD (newRecord w name slot parents) g 0
+    pub field-booked-same : (g : ℕ) → g < recordWords → field (booked w name slot parents) (bookings w) g ≡ getD (newRecord name slot (parentNumbers w parents)) g 0
     unfolding booked
     field-booked-same g h =
         field-withHeader-kept placed bookingsField (bookings w + 1) (bookings w) g (omega arith)
         ∙ field-entered-kept slot (bookings w) recorded (bookings w) g room h
-        ∙ field-setsRecord-same w (bookings w) (newRecord w name slot parents) g h (omega arith)
+        ∙ field-setsRecord-same w (bookings w) (newRecord name slot (parentNumbers w parents)) g h (omega arith)
 
     pub nameOf-booked-same : nameOf (booked w name slot parents) (bookings w) ≡ name
     nameOf-booked-same =
@@ -154,7 +154,7 @@ module _ (w : List ℕ) (name slot : ℕ) (parents : List ℕ) where
 
   module _ (room : bookings w < mostBookings) where
     entry-recorded : (t g : ℕ) → entry recorded t g ≡ entry w t g
-    entry-recorded t g = entry-setsRecord-kept w (bookings w) (newRecord w name slot parents) t g room (omega arith)
+    entry-recorded t g = entry-setsRecord-kept w (bookings w) (newRecord name slot (parentNumbers w parents)) t g room (omega arith)
 
     entry-placed : (t g : ℕ) → entry (booked w name slot parents) t g ≡ entry placed t g
     unfolding booked

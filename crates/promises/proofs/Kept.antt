@@ -8,7 +8,7 @@ use Rattle.rules.specs.Book.{lookUp, numberOf}
 use Rattle.rules.specs.Calls.{openCall, bookCall, pollCall}
 use Rattle.rules.specs.Sound.{Ledger}
 use Rattle.rule_laws.proofs.Opened.{opened-ledger}
-use Rattle.promises.specs.Run.{Call, Open, Book, Poll, Query, Accepted, Lead, Confidence, Size, outcomeOf, isTaken}
+use Rattle.promises.specs.Run.{Call, Open, Book, Poll, Ask, outcomeOf, isTaken}
 use Rattle.promises.specs.Soundness.{OpenedSound, SoundKept}
 use Rattle.promises.specs.Lasting.{Grown, opens, BookingsLast, AncestryLasts}
 use Rattle.promises.proofs.Taken.{open-taken, open-kept, book-taken, book-kept, poll-taken, poll-kept}
@@ -48,11 +48,7 @@ unfolding outcomeOf
 call-kept (Open s) w n l = absurd (true≢false n)
 call-kept (Book name slot parents) w n l = kept-book w name slot parents (isTaken (bookCall w name slot parents .answer)) refl l
 call-kept (Poll name votes) w n l = kept-poll w name votes (isTaken (pollCall w name votes .answer)) refl l
-call-kept (Query name) w n l = kept-self w l
-call-kept (Accepted name) w n l = kept-self w l
-call-kept (Lead name) w n l = kept-self w l
-call-kept (Confidence name) w n l = kept-self w l
-call-kept (Size name) w n l = kept-self w l
+call-kept (Ask what name) w n l = kept-self w l
 
 -- ---- the promises
 
@@ -70,11 +66,7 @@ unfolding SoundKept outcomeOf
 sound-kept (Open s) w l = open-sound w s (isTaken (openCall w s .answer)) refl l
 sound-kept (Book name slot parents) w l = call-kept (Book name slot parents) w refl l .ledger
 sound-kept (Poll name votes) w l = call-kept (Poll name votes) w refl l .ledger
-sound-kept (Query name) w l = l
-sound-kept (Accepted name) w l = l
-sound-kept (Lead name) w l = l
-sound-kept (Confidence name) w l = l
-sound-kept (Size name) w l = l
+sound-kept (Ask what name) w l = l
 
 pub bookings-last : BookingsLast
 unfolding BookingsLast

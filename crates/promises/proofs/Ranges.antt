@@ -63,7 +63,6 @@ value-within most f w name bound = value-any (λ z. natAbs z ≤ most) f w name 
 -- ---- the ranges
 
 pub ranges : Ranges
-unfolding queryCall acceptedCall leadCall confidenceCall sizeCall
 ranges = record {
   numbers = λ c w. omega (arith, number-le (outcomeOf c w .answer));
   query = λ w name. value-most _ (λ i. bit (queryOf w i)) w name (λ i ledger h. omega (arith, query-le w i));

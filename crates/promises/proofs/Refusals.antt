@@ -35,6 +35,7 @@ use Rattle.rules.specs.Listing.{listCall}
 use Rattle.rules.specs.Calls.{
   openAnswer,
   openCall,
+  testOf,
   tested,
   bookAnswer,
   bookCall,
@@ -42,17 +43,14 @@ use Rattle.rules.specs.Calls.{
   pollAnswer,
   pollCall,
   readingCall,
-  queryCall,
-  acceptedCall,
-  leadCall,
-  confidenceCall,
-  sizeCall,
+  readCall,
 }
 use Rattle.rule_laws.proofs.Calls.{value-refused, open-refused, book-refused, poll-refused}
 use Rattle.rule_laws.proofs.Good.{isGood→Good, Good→isGood}
 use Rattle.rule_laws.proofs.Sound.{isSound→Sound, Sound→isSound}
+use Rattle.rule_laws.proofs.Tested.{tested-in-order}
 use Rattle.rule_laws.proofs.Lookup.{found-below, found-name, absent-name, found-is}
-use Rattle.promises.specs.Run.{Open, Book, Poll, Query, Accepted, Lead, Confidence, Size, outcomeOf}
+use Rattle.promises.specs.Run.{Open, Book, Poll, Ask, outcomeOf}
 use Rattle.promises.specs.Refusals.{
   RefusedKeeps,
   Booked,
@@ -76,11 +74,7 @@ unfolding RefusedKeeps outcomeOf
 refused-keeps (Open s) w h = let kept = open-refused w s h in (kept .words, kept .value)
 refused-keeps (Book name slot parents) w h = let kept = book-refused w name slot parents h in (kept .words, kept .value)
 refused-keeps (Poll name votes) w h = let kept = poll-refused w name votes h in (kept .words, kept .value)
-refused-keeps (Query name) w h = (refl, value-refused (queryCall w name) h)
-refused-keeps (Accepted name) w h = (refl, value-refused (acceptedCall w name) h)
-refused-keeps (Lead name) w h = (refl, value-refused (leadCall w name) h)
-refused-keeps (Confidence name) w h = (refl, value-refused (confidenceCall w name) h)
-refused-keeps (Size name) w h = (refl, value-refused (sizeCall w name) h)
+refused-keeps (Ask what name) w h = (refl, value-refused (readCall what w name) h)
 
 -- ---- a test that tells whether a case applies
 
@@ -215,10 +209,10 @@ module _ {n : ℕ} {later : Type 0} where
   asked-first Absent rest e tells onward = inl (tells .fails refl, e)
 
 -- 1 and 2, and what follows them knows that the workspace is sound
-tested-first : {n : ℕ} {later : Type 0} (w : List ℕ) (rest : Answer) → n ≡ number (tested isSound w rest) → (Sound w → n ≡ number rest → later)
+tested-first : {n : ℕ} {later : Type 0} (w : List ℕ) (rest : Answer) → n ≡ number (tested testOf w rest) → (Sound w → n ≡ number rest → later)
     → refuses (refusalNumber Refusal.WrongLength) (length w ≢ size) (refuses (refusalNumber Refusal.NotSound) (Sound w → ⊥) (λ k. later)) n
 tested-first w rest e onward =
-    refused-first Refusal.WrongLength _ _ e (differs-tells (length w) size) (λ t e.
+    refused-first Refusal.WrongLength _ _ (e ∙ ap number (tested-in-order w rest)) (differs-tells (length w) size) (λ t e.
     refused-first Refusal.NotSound _ _ e (unsound-tells w) (λ t. onward (isSound→Sound w (not-false _ t))))
 
 -- ---- the lists
@@ -237,7 +231,7 @@ open-listed w s =
 book-listed : (w : List ℕ) (name slot : ℕ) (parents : List ℕ) → BookListed w name slot parents (number (bookCall w name slot parents .answer))
 unfolding bookCall
 book-listed w name slot parents =
-    tested-first w _ (ap number (leaves-answer (bookAnswer isSound w name slot parents) w (booked w name slot parents))) (λ sound e.
+    tested-first w _ (ap number (leaves-answer (bookAnswer testOf w name slot parents) w (booked w name slot parents))) (λ sound e.
     refused-first Refusal.NameTaken _ _ e (found-tells w name) (λ t e.
     refused-first Refusal.BadSlot _ _ e (either-tells _ _ (equal-tells slot 0) (most-tells slots slot)) (λ t e.
     refused-first Refusal.BadParents _ _ e (either-tells _ _ (equal-tells (length parents) 0) (less-tells mostParents (length parents))) (λ t e.
@@ -249,7 +243,7 @@ book-listed w name slot parents =
 poll-listed : (w : List ℕ) (name : ℕ) (votes : List ℕ) → PollListed w name votes (number (pollCall w name votes .answer))
 unfolding pollCall
 poll-listed w name votes =
-    tested-first w _ (ap number (leaves-answer (pollAnswer isSound w name votes) w (polled w (numberOf (lookUp w name)) votes))) (λ sound e.
+    tested-first w _ (ap number (leaves-answer (pollAnswer testOf w name votes) w (polled w (numberOf (lookUp w name)) votes))) (λ sound e.
     asked-first (lookUp w name) _ e (found-tells w name) (λ i found e.
     refused-first Refusal.NotWaiting _ _ e (waiting-tells w sound name i found) (λ t e.
     refused-first Refusal.WrongVotes _ _ e (differs-tells (length votes) (settingIn w .k)) (λ t e.
@@ -267,16 +261,11 @@ unfolding listCall
 list-listed w = tested-first w done refl (λ sound e. e)
 
 pub refused-listed : RefusedListed
-unfolding queryCall acceptedCall leadCall confidenceCall sizeCall
 refused-listed =
     record {
       opening = open-listed;
       booking = book-listed;
       polling = poll-listed;
-      query = λ w. reading-listed (readingOf Reading.Query w) w;
-      accepted = λ w. reading-listed (readingOf Reading.Accepted w) w;
-      lead = λ w. reading-listed (readingOf Reading.Lead w) w;
-      confidence = λ w. reading-listed (readingOf Reading.Confidence w) w;
-      size = λ w. reading-listed (readingOf Reading.Size w) w;
+      reading = λ what w. reading-listed (readingOf what w) w;
       list = list-listed;
     }

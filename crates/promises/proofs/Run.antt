@@ -25,11 +25,7 @@ use Rattle.promises.specs.Run.{
   Open,
   Book,
   Poll,
-  Query,
-  Accepted,
-  Lead,
-  Confidence,
-  Size,
+  Ask,
   outcomeOf,
   isTaken,
   History,
@@ -230,11 +226,7 @@ step-right (Poll name votes) w h right =
     by-taken Right (pollCall w name votes .words) (withPoll (isSuccess w votes) (numberOf (lookUp w name)) h) h (isTaken (pollCall w name votes .answer))
     (λ t. let o = poll-taken w name votes t in right-words (o .2) (polled-right w h right (numberOf (lookUp w name)) votes (o .1)))
     (λ f. right-words (poll-kept w name votes f) right)
-step-right (Query name) w h right = right
-step-right (Accepted name) w h right = right
-step-right (Lead name) w h right = right
-step-right (Confidence name) w h right = right
-step-right (Size name) w h right = right
+step-right (Ask what name) w h right = right
 
 run-right : (calls : List Call) (t : Station) → Right (t .words) (t .history) → Right (run calls t .words) (run calls t .history)
 unfolding run

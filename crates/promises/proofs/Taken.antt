@@ -1,6 +1,6 @@
 -- What a taken call has passed: each of its tests failed, so the fact that each refusal would deny holds, and its words are the rule's.
 -- What a refused call leaves: every word. Assumes nothing.
-use mathlib.Core.Path.{_≡_, refl, sym, ap}
+use mathlib.Core.Path.{_≡_, refl, sym, ap, _∙_}
 use mathlib.Core.Bool.{Bool, true, false, _||_, cond, true≢false}
 use mathlib.Core.List.{List}
 use mathlib.Core.Logic.{_≢_}
@@ -27,10 +27,11 @@ use Rattle.rules.specs.Sound.{Ledger}
 use Rattle.rules.specs.Open.{opened}
 use Rattle.rules.specs.Book.{lookUp, numberOf, hasUnknown, hasTwice, booked}
 use Rattle.rules.specs.Poll.{polled}
-use Rattle.rules.specs.Calls.{openAnswer, openCall, tested, bookAnswer, bookCall, askedOf, pollAnswer, pollCall, readingCall}
+use Rattle.rules.specs.Calls.{openAnswer, openCall, testOf, tested, bookAnswer, bookCall, askedOf, pollAnswer, pollCall, readingCall}
 use Rattle.rule_laws.proofs.Calls.{number-refused, open-refused, book-refused, poll-refused}
 use Rattle.rule_laws.proofs.Good.{isGood→Good}
 use Rattle.rule_laws.proofs.Sound.{isSound→Sound}
+use Rattle.rule_laws.proofs.Tested.{tested-in-order}
 use Rattle.rule_laws.proofs.Lookup.{isFound-false, absent-name, found-below}
 use Rattle.promises.specs.Run.{isTaken}
 
@@ -84,9 +85,9 @@ module _ {v : ℤ} where
   passed true r rest e = absurd (true≢false (sym (ap isTaken e)))
   passed false r rest e = (refl, e)
 
-  tested-passed : (w : List ℕ) (rest : Answer) → tested isSound w rest ≡ Taken v → Ledger w × (rest ≡ Taken v)
+  tested-passed : (w : List ℕ) (rest : Answer) → tested testOf w rest ≡ Taken v → Ledger w × (rest ≡ Taken v)
   tested-passed w rest e =
-      let long = passed _ _ _ e in
+      let long = passed _ _ _ (sym (tested-in-order w rest) ∙ e) in
       let sound = passed _ _ _ (long .1) in
       (record { whole = eqb-true _ _ (not-false _ (long .0)); sound = isSound→Sound w (not-false _ (sound .0)) }, sound .1)
 
@@ -114,7 +115,7 @@ pub book-taken : (w : List ℕ) (name slot : ℕ) (parents : List ℕ) → isTak
     → Ledger w × Bookable w name slot parents × (bookCall w name slot parents .words ≡ booked w name slot parents)
 unfolding bookCall
 book-taken w name slot parents e =
-    let taken = leaves-taken (bookAnswer isSound w name slot parents) w (booked w name slot parents) e in
+    let taken = leaves-taken (bookAnswer testOf w name slot parents) w (booked w name slot parents) e in
     let ledger = tested-passed w _ (taken .1) in
     let new = passed _ _ _ (ledger .1) in
     let inRange = passed _ _ _ (new .1) in
@@ -142,7 +143,7 @@ pub poll-taken : (w : List ℕ) (name : ℕ) (votes : List ℕ) → isTaken (pol
     → Ledger w × Pollable w (numberOf (lookUp w name)) × (pollCall w name votes .words ≡ polled w (numberOf (lookUp w name)) votes)
 unfolding pollCall
 poll-taken w name votes e =
-    let taken = leaves-taken (pollAnswer isSound w name votes) w (polled w (numberOf (lookUp w name)) votes) e in
+    let taken = leaves-taken (pollAnswer testOf w name votes) w (polled w (numberOf (lookUp w name)) votes) e in
     let ledger = tested-passed w _ (taken .1) in
     let found = asked-passed (lookUp w name) _ (ledger .1) in
     let waiting = passed _ _ _ (found .1) in

@@ -54,7 +54,7 @@ module _ (w : List ℕ) (ledger : Ledger w) (i : ℕ) (below : i < bookings w) w
       go false e s = rw add-zero (passes (λ r. true≢false (sym (Reaches→marks w (ledger .sound) i below n r) ∙ e)) s)
 
   pub each-told : Told w i
-  unfolding queryCall acceptedCall leadCall confidenceCall sizeCall leadOf sizeOf
+  unfolding leadOf sizeOf
   each-told = record {
     query = record {
       yes = λ c. told (λ k. pos (bit (queryOf w k))) ∙ one (queryOf w i) (query-is w (ledger .sound) i below .1 c);

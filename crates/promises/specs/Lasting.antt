@@ -7,18 +7,14 @@ use Prim.Native.Nat.{ℕ, _<_, _≤_}
 use Rattle.rules.specs.Layout.{bookings, polls, mostParents, nameOf, slotOf, parentOf}
 use Rattle.rules.specs.Ancestry.{Reaches, ancestry}
 use Rattle.rules.specs.Sound.{Ledger}
-use Rattle.promises.specs.Run.{Call, Open, Book, Poll, Query, Accepted, Lead, Confidence, Size, outcomeOf, Opening, after}
+use Rattle.promises.specs.Run.{Call, Open, Book, Poll, Ask, outcomeOf, Opening, after}
 
 -- whether the call is an opening
 abbrev pub opens : Call → Bool
 opens (Open s) = true
 opens (Book name slot parents) = false
 opens (Poll name votes) = false
-opens (Query name) = false
-opens (Accepted name) = false
-opens (Lead name) = false
-opens (Confidence name) = false
-opens (Size name) = false
+opens (Ask what name) = false
 
 -- what w says of its bookings, u says of them too
 pub record Grown (w u : List ℕ) : Type 0 where

@@ -6,11 +6,12 @@ use Prim.Native.Nat.{ℕ, _<_, _≤_}
 use lib.IntN.{pos}
 use lib.ListN.{length, getD}
 use Rattle.terms.specs.declared.setting.Setting.{Setting}
+use Rattle.terms.specs.declared.answer.Reading.{Reading}
 use Rattle.terms.specs.Answers.{number, value}
 use Rattle.rules.specs.Layout.{size, slots, mostParents, mostBookings, bookings, settingIn, nameOf, stateOf}
 use Rattle.terms.specs.Setting.{Good}
 use Rattle.rules.specs.Sound.{Sound}
-use Rattle.rules.specs.Calls.{openCall, bookCall, pollCall, queryCall, acceptedCall, leadCall, confidenceCall, sizeCall}
+use Rattle.rules.specs.Calls.{openCall, bookCall, pollCall, readCall}
 use Rattle.rules.specs.Listing.{listCall}
 use Rattle.promises.specs.Run.{Call, outcomeOf}
 
@@ -113,9 +114,5 @@ pub record RefusedListed : Type 0 where
   pub opening : (w : List ℕ) (s : Setting) → OpenListed w s (number (openCall w s .answer))
   pub booking : (w : List ℕ) (name slot : ℕ) (parents : List ℕ) → BookListed w name slot parents (number (bookCall w name slot parents .answer))
   pub polling : (w : List ℕ) (name : ℕ) (votes : List ℕ) → PollListed w name votes (number (pollCall w name votes .answer))
-  pub query : (w : List ℕ) (name : ℕ) → ReadingListed w name (number (queryCall w name))
-  pub accepted : (w : List ℕ) (name : ℕ) → ReadingListed w name (number (acceptedCall w name))
-  pub lead : (w : List ℕ) (name : ℕ) → ReadingListed w name (number (leadCall w name))
-  pub confidence : (w : List ℕ) (name : ℕ) → ReadingListed w name (number (confidenceCall w name))
-  pub size : (w : List ℕ) (name : ℕ) → ReadingListed w name (number (sizeCall w name))
+  pub reading : (what : Reading) (w : List ℕ) (name : ℕ) → ReadingListed w name (number (readCall what w name))
   pub list : (w : List ℕ) → ListListed w (number (listCall w))

@@ -4,34 +4,27 @@ use mathlib.Core.Path.{_≡_}
 use mathlib.Core.Bool.{Bool, true, false, cond}
 use mathlib.Core.List.{List, [], _∷_}
 use Rattle.terms.specs.declared.setting.Setting.{Setting}
+use Rattle.terms.specs.declared.answer.Reading.{Reading}
 use Rattle.terms.specs.declared.answer.Answer.{Answer}
 use Rattle.terms.specs.declared.answer.Answer.the-variants.{Taken, Refused}
 use Rattle.terms.specs.Answers.{Outcome, outcome}
 use Rattle.rules.specs.Book.{lookUp, numberOf}
 use Rattle.rules.specs.Poll.{isSuccess}
-use Rattle.rules.specs.Calls.{openCall, bookCall, pollCall, queryCall, acceptedCall, leadCall, confidenceCall, sizeCall}
+use Rattle.rules.specs.Calls.{openCall, bookCall, pollCall, readCall}
 
--- the eight calls
+-- the eight calls: five of them are readings
 pub data Call : Type 0 where
   Open : Setting → Call
   Book : (name slot : ℕ) (parents : List ℕ) → Call
   Poll : (name : ℕ) (votes : List ℕ) → Call
-  Query : (name : ℕ) → Call
-  Accepted : (name : ℕ) → Call
-  Lead : (name : ℕ) → Call
-  Confidence : (name : ℕ) → Call
-  Size : (name : ℕ) → Call
+  Ask : (what : Reading) (name : ℕ) → Call
 
 -- what a call gives on the words w
 unfoldable pub outcomeOf : Call → List ℕ → Outcome
 outcomeOf (Open s) w = openCall w s
 outcomeOf (Book name slot parents) w = bookCall w name slot parents
 outcomeOf (Poll name votes) w = pollCall w name votes
-outcomeOf (Query name) w = outcome (queryCall w name) w
-outcomeOf (Accepted name) w = outcome (acceptedCall w name) w
-outcomeOf (Lead name) w = outcome (leadCall w name) w
-outcomeOf (Confidence name) w = outcome (confidenceCall w name) w
-outcomeOf (Size name) w = outcome (sizeCall w name) w
+outcomeOf (Ask what name) w = outcome (readCall what w name) w
 
 abbrev pub isTaken : Answer → Bool
 isTaken (Taken v) = true
@@ -57,11 +50,7 @@ historyAfter (Open s) w h = cond (isTaken (openCall w s .answer)) fresh h
 historyAfter (Book name slot parents) w h = h
 historyAfter (Poll name votes) w h =
     cond (isTaken (pollCall w name votes .answer)) (withPoll (isSuccess w votes) (numberOf (lookUp w name)) h) h
-historyAfter (Query name) w h = h
-historyAfter (Accepted name) w h = h
-historyAfter (Lead name) w h = h
-historyAfter (Confidence name) w h = h
-historyAfter (Size name) w h = h
+historyAfter (Ask what name) w h = h
 
 -- ---- runs
 

@@ -26,11 +26,12 @@ use Rattle.terms.specs.declared.answer.Refusal.the-variants.{
 }
 use Rattle.terms.specs.declared.answer.Found.{Found}
 use Rattle.terms.specs.declared.answer.Found.the-variants.{At, Absent}
+use Rattle.terms.specs.declared.answer.Tested.{Tested}
+use Rattle.terms.specs.declared.answer.Tested.the-variants.{Fine, Stop}
 use Rattle.terms.specs.declared.answer.Answer.{Answer}
 use Rattle.terms.specs.declared.answer.Answer.the-variants.{Taken, Refused}
 use Rattle.terms.specs.Answers.{refusalNumber, number, value, Outcome, leaves}
-use Rattle.rules.specs.Calls.{openAnswer, openCall, bookAnswer, bookCall, pollAnswer, pollCall, askedOf, readingCall}
-use Rattle.rules.specs.IsSound.{isSound}
+use Rattle.rules.specs.Calls.{openAnswer, openCall, testOf, unlessStopped, bookAnswer, bookCall, pollAnswer, pollCall, askedOf, readingCall}
 
 -- ---- the number tells a refusal from a taken call
 
@@ -74,11 +75,11 @@ open-refused w s = leaves-refused (openAnswer w s) w _
 
 pub book-refused : (w : List ℕ) (name slot : ℕ) (parents : List ℕ) → number (bookCall w name slot parents .answer) ≢ 0 → Kept w (bookCall w name slot parents)
 unfolding bookCall
-book-refused w name slot parents = leaves-refused (bookAnswer isSound w name slot parents) w _
+book-refused w name slot parents = leaves-refused (bookAnswer testOf w name slot parents) w _
 
 pub poll-refused : (w : List ℕ) (name : ℕ) (votes : List ℕ) → number (pollCall w name votes .answer) ≢ 0 → Kept w (pollCall w name votes)
 unfolding pollCall
-poll-refused w name votes = leaves-refused (pollAnswer isSound w name votes) w _
+poll-refused w name votes = leaves-refused (pollAnswer testOf w name votes) w _
 
 pub reading-refused : (reading : ℕ → ℤ) (w : List ℕ) (name : ℕ) → number (readingCall reading w name) ≢ 0 → value (readingCall reading w name) ≡ pos 0
 reading-refused reading w name = value-refused (readingCall reading w name)
@@ -105,6 +106,10 @@ asked-same : (f : Found) → valueAsked f (λ i. pos 0) ≡ pos 0
 asked-same (At i) = refl
 asked-same Absent = refl
 
+value-stopped : (t : Tested) (rest : Answer) → value rest ≡ pos 0 → value (unlessStopped t rest) ≡ pos 0
+value-stopped Fine rest e = e
+value-stopped (Stop r) rest e = refl
+
 leaves-value : (a : Answer) (before after : List ℕ) → value a ≡ pos 0 → value (leaves a before after .answer) ≡ pos 0
 leaves-value (Taken v) before after e = e
 leaves-value (Refused r) before after e = e
@@ -115,8 +120,8 @@ open-value w s = leaves-value (openAnswer w s) w _ (simp (value-cond, cond-same)
 
 pub book-value : (w : List ℕ) (name slot : ℕ) (parents : List ℕ) → value (bookCall w name slot parents .answer) ≡ pos 0
 unfolding bookCall
-book-value w name slot parents = leaves-value (bookAnswer isSound w name slot parents) w _ (simp (value-cond, cond-same))
+book-value w name slot parents = leaves-value (bookAnswer testOf w name slot parents) w _ (value-stopped (testOf w) _ (simp (value-cond, cond-same)))
 
 pub poll-value : (w : List ℕ) (name : ℕ) (votes : List ℕ) → value (pollCall w name votes .answer) ≡ pos 0
 unfolding pollCall
-poll-value w name votes = leaves-value (pollAnswer isSound w name votes) w _ (simp (value-cond, value-asked, cond-same, asked-same))
+poll-value w name votes = leaves-value (pollAnswer testOf w name votes) w _ (value-stopped (testOf w) _ (simp (value-cond, value-asked, cond-same, asked-same)))

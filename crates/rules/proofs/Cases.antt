@@ -1,5 +1,5 @@
 -- Document 01, "Cases on each side": P1 to P12, one table under one statement, computed from the definitions on whole workspaces.
--- Every step is a call with its refusals, as a user would make it, and every reading an answer: a refusal is not taken for a 0.
+-- Every step is a call with its refusals, as a user would make it, and every reading the number and the value that come back: a refusal is not taken for a 0.
 use mathlib.Core.Path.{_≡_, sym, ap, ap₂, fun-ext, _∙_}
 use mathlib.Core.Bool.{Bool, true, false, _&&_}
 use mathlib.Core.List.{List, [], _∷_, _++_}
@@ -13,6 +13,7 @@ use Rattle.loops.specs.Total.{bit, total, greatest}
 use Rattle.loops.specs.Fill.{from}
 use Rattle.loops.specs.Rows.{walkFrom}
 use Rattle.terms.specs.declared.setting.Setting.{Setting}
+use Rattle.terms.specs.declared.answer.Reading.{Reading}
 use Rattle.terms.specs.declared.answer.Reading.the-variants.{Query, Accepted, Lead, Confidence, Size}
 use Rattle.terms.specs.declared.answer.Refusal.the-variants.{BadSetting}
 use Rattle.terms.specs.declared.answer.Answer.{Answer}
@@ -51,8 +52,8 @@ use Rattle.rules.specs.Open.{opened, openWord}
 use Rattle.rules.specs.Book.{lookUp, hasUnknown, hasTwice, entered, booked}
 use Rattle.rules.specs.Poll.{polled, raiseOne, prefer, follow, settleOne}
 use Rattle.rules.specs.Readings.{queryOf, acceptOne, acceptedOf, rivalsMost, leadOf, sizeOf}
-use Rattle.rules.specs.Calls.{openCall, bookBy, pollBy, readBy, bookCall, pollCall, queryCall, acceptedCall, leadCall, confidenceCall, sizeCall}
-use Rattle.rules.proofs.Same.{Passes, passes, sameTable, same-table}
+use Rattle.rules.specs.Calls.{openCall, testBy, testOf, bookBy, pollBy, readBy, bookCall, pollCall, readCall}
+use Rattle.rules.proofs.Same.{Got, got, Passes, passes, sameTable, same-table}
 use Rattle.rules.proofs.Walk.{isSoundWalked, walked-is}
 
 abbrev setting : ℕ → ℕ → ℕ → ℕ → Setting
@@ -73,11 +74,7 @@ confidences w = total (confidenceOf w) (bookings w)
 pub record Made : Type 0 where
   pub book : List ℕ → ℕ → ℕ → List ℕ → Outcome
   pub poll : List ℕ → ℕ → List ℕ → Outcome
-  pub query : List ℕ → ℕ → Answer
-  pub accepted : List ℕ → ℕ → Answer
-  pub lead : List ℕ → ℕ → Answer
-  pub confidence : List ℕ → ℕ → Answer
-  pub members : List ℕ → ℕ → Answer
+  pub ask : Reading → List ℕ → ℕ → Answer
 
 -- the calls of the law
 unfoldable pub theCalls : Made
@@ -85,23 +82,19 @@ theCalls =
     record {
       book = bookCall;
       poll = pollCall;
-      query = queryCall;
-      accepted = acceptedCall;
-      lead = leadCall;
-      confidence = confidenceCall;
-      members = sizeCall;
+      ask = readCall;
     }
 
 -- a number, as the value of a taken call or read off the words
-abbrev is : ℕ → Answer
-is n = Taken (pos n)
+abbrev is : ℕ → Got
+is n = got (Taken (pos n))
 
 abbrev unopened : List ℕ
 unopened = replicate size 0
 
 -- ---- P1 to P8 and P11: bookings 1 and 2 of slot 7, 3 below 1, and 4 below both
 
-unfoldable pub diamond : Made → List (List Answer)
+unfoldable pub diamond : Made → List (List Got)
 diamond c =
     let empty = openCall unopened (setting 3 2 1 2) .words in
     let booked1 = c .book empty 1 7 (0 ∷ []) .words in
@@ -114,66 +107,66 @@ diamond c =
     let poll1 = c .poll poll4 1 (1 ∷ 1 ∷ 0 ∷ []) .words in
     let noes = c .poll booked4 2 (255 ∷ 255 ∷ 255 ∷ []) in
     -- P1: before any poll, query of 1 to 4
-    (c .query booked4 1 ∷ c .query booked4 2 ∷ c .query booked4 3 ∷ c .query booked4 4 ∷ [])
+    (got (c .ask Query booked4 1) ∷ got (c .ask Query booked4 2) ∷ got (c .ask Query booked4 3) ∷ got (c .ask Query booked4 4) ∷ [])
     -- P2: slot 7 prefers 2, its counter, query of 3
-    ∷ (is (preferredIn poll2 7) ∷ is (counterIn poll2 7) ∷ c .query poll2 3 ∷ [])
+    ∷ (is (preferredIn poll2 7) ∷ is (counterIn poll2 7) ∷ got (c .ask Query poll2 3) ∷ [])
     -- P3: leads of 1 and 2
-    ∷ (c .lead poll2 1 ∷ c .lead poll2 2 ∷ [])
+    ∷ (got (c .ask Lead poll2 1) ∷ got (c .ask Lead poll2 2) ∷ [])
     -- P4: the failed poll is taken, and only state, ordinal and p move
-    ∷ (poll3 .answer
+    ∷ (got (poll3 .answer)
     ∷ is (bit (same (poll3 .words) (withHeader (withField (withField poll2 3 stateField 1) 3 ordinalField 2) pollsField 2)))
     ∷ [])
     -- P5: the confidences, their total, and the sizes of 2 and 4
-    ∷ (c .confidence poll4 0 ∷ c .confidence poll4 1 ∷ c .confidence poll4 2 ∷ c .confidence poll4 3 ∷ c .confidence poll4 4
-    ∷ is (confidences poll4) ∷ c .members poll4 2 ∷ c .members poll4 4 ∷ [])
+    ∷ (got (c .ask Confidence poll4 0) ∷ got (c .ask Confidence poll4 1) ∷ got (c .ask Confidence poll4 2) ∷ got (c .ask Confidence poll4 3) ∷ got (c .ask Confidence poll4 4)
+    ∷ is (confidences poll4) ∷ got (c .ask Size poll4 2) ∷ got (c .ask Size poll4 4) ∷ [])
     -- P6: the tie at slot 7: confidences of 1 and 2, the preferred one, leads of 1 and 2
-    ∷ (c .confidence poll1 1 ∷ c .confidence poll1 2 ∷ is (preferredIn poll1 7) ∷ c .lead poll1 1 ∷ c .lead poll1 2 ∷ [])
+    ∷ (got (c .ask Confidence poll1 1) ∷ got (c .ask Confidence poll1 2) ∷ is (preferredIn poll1 7) ∷ got (c .ask Lead poll1 1) ∷ got (c .ask Lead poll1 2) ∷ [])
     -- P7: the total, and the sizes of 2, 4 and 1
-    ∷ (is (confidences poll1) ∷ c .members poll1 2 ∷ c .members poll1 4 ∷ c .members poll1 1 ∷ [])
+    ∷ (is (confidences poll1) ∷ got (c .ask Size poll1 2) ∷ got (c .ask Size poll1 4) ∷ got (c .ask Size poll1 1) ∷ [])
     -- P8: sizes of 4 and of the genesis
-    ∷ (c .members poll1 4 ∷ c .members poll1 0 ∷ [])
+    ∷ (got (c .ask Size poll1 4) ∷ got (c .ask Size poll1 0) ∷ [])
     -- P11: three noes: taken, and the state is 1
-    ∷ (noes .answer ∷ is (stateOf (noes .words) 2) ∷ [])
+    ∷ (got (noes .answer) ∷ is (stateOf (noes .words) 2) ∷ [])
     ∷ []
 
-unfoldable pub diamondSays : List (List Answer)
+unfoldable pub diamondSays : List (List Got)
 diamondSays =
     (is 1 ∷ is 0 ∷ is 1 ∷ is 0 ∷ [])
     ∷ (is 2 ∷ is 0 ∷ is 0 ∷ [])
-    ∷ (Taken (negℤ (pos 1)) ∷ is 1 ∷ [])
-    ∷ (done ∷ is 1 ∷ [])
+    ∷ (got (Taken (negℤ (pos 1))) ∷ is 1 ∷ [])
+    ∷ (got done ∷ is 1 ∷ [])
     ∷ (is 2 ∷ is 1 ∷ is 2 ∷ is 0 ∷ is 1 ∷ is 6 ∷ is 2 ∷ is 4 ∷ [])
     ∷ (is 2 ∷ is 2 ∷ is 2 ∷ is 0 ∷ is 0 ∷ [])
     ∷ (is 8 ∷ is 2 ∷ is 4 ∷ is 2 ∷ [])
     ∷ (is 4 ∷ is 1 ∷ [])
-    ∷ (done ∷ is 1 ∷ [])
+    ∷ (got done ∷ is 1 ∷ [])
     ∷ []
 
 -- ---- P9, P10 and P12: a booking alone in its slot, and two settings
 
-unfoldable pub alone : Made → List (List Answer)
+unfoldable pub alone : Made → List (List Got)
 alone c =
     let booked = c .book (c .book (openCall unopened (setting 1 1 1 2) .words) 1 7 (0 ∷ []) .words) 2 8 (1 ∷ []) .words in
     let poll1 = c .poll booked 1 (1 ∷ []) .words in
     let poll2 = c .poll poll1 2 (1 ∷ []) .words in
     -- P9: after the first poll the counter, and accepted of 1
-    (is (counterIn poll1 7) ∷ c .accepted poll1 1 ∷ [])
+    (is (counterIn poll1 7) ∷ got (c .ask Accepted poll1 1) ∷ [])
     -- P10: after the second
-    ∷ (is (counterIn poll2 7) ∷ c .accepted poll2 1 ∷ [])
+    ∷ (is (counterIn poll2 7) ∷ got (c .ask Accepted poll2 1) ∷ [])
     -- P12: k = 2 with a = 1, and with a = 2
-    ∷ (openCall unopened (setting 2 1 1 2) .answer ∷ openCall unopened (setting 2 2 1 2) .answer ∷ [])
+    ∷ (got (openCall unopened (setting 2 1 1 2) .answer) ∷ got (openCall unopened (setting 2 2 1 2) .answer) ∷ [])
     ∷ []
 
-unfoldable pub aloneSays : List (List Answer)
+unfoldable pub aloneSays : List (List Got)
 aloneSays =
     (is 1 ∷ is 0 ∷ [])
     ∷ (is 2 ∷ is 1 ∷ [])
-    ∷ (Refused BadSetting ∷ done ∷ [])
+    ∷ (got (Refused BadSetting) ∷ got done ∷ [])
     ∷ []
 
 -- ---- beside P1 to P12: rivals 1 and 3 of slot 7, and 2 below 1
 
-unfoldable pub rivals : Made → List (List Answer)
+unfoldable pub rivals : Made → List (List Got)
 rivals c =
     let booked = c .book (c .book (c .book (openCall unopened (setting 1 1 1 1) .words) 1 7 (0 ∷ []) .words) 2 8 (1 ∷ []) .words) 3 7 (0 ∷ []) .words in
     let poll2 = c .poll (c .poll booked 1 (1 ∷ []) .words) 2 (1 ∷ []) .words in
@@ -181,18 +174,18 @@ rivals c =
     let poll3 = c .poll poll2 3 (1 ∷ []) .words in
     let poll4 = c .poll (c .book poll3 4 9 (1 ∷ 3 ∷ []) .words) 4 (1 ∷ []) .words in
     -- before any poll, query of 1 and 3
-    (c .query booked 1 ∷ c .query booked 3 ∷ [])
+    (got (c .ask Query booked 1) ∷ got (c .ask Query booked 3) ∷ [])
     -- after the polls of 1 and 2: the slot's four words, and accepted of 1 and 3
-    ∷ (is (preferredIn poll2 7) ∷ is (lastIn poll2 7) ∷ is (counterIn poll2 7) ∷ is (heldIn poll2 7) ∷ c .accepted poll2 1 ∷ c .accepted poll2 3 ∷ [])
+    ∷ (is (preferredIn poll2 7) ∷ is (lastIn poll2 7) ∷ is (counterIn poll2 7) ∷ is (heldIn poll2 7) ∷ got (c .ask Accepted poll2 1) ∷ got (c .ask Accepted poll2 3) ∷ [])
     -- were 3 the last one by that counter: neither rival is both preferred and last, and neither is accepted
-    ∷ (c .accepted parted 1 ∷ c .accepted parted 3 ∷ [])
+    ∷ (got (c .ask Accepted parted 1) ∷ got (c .ask Accepted parted 3) ∷ [])
     -- the poll of 3 makes it last, with a counter of 0
-    ∷ (is (preferredIn poll3 7) ∷ is (lastIn poll3 7) ∷ is (counterIn poll3 7) ∷ c .accepted poll3 1 ∷ [])
+    ∷ (is (preferredIn poll3 7) ∷ is (lastIn poll3 7) ∷ is (counterIn poll3 7) ∷ got (c .ask Accepted poll3 1) ∷ [])
     -- a poll that reaches both: in rising number, so 3 is last
     ∷ (is (lastIn poll4 7) ∷ is (counterIn poll4 7) ∷ [])
     ∷ []
 
-unfoldable pub rivalsSay : List (List Answer)
+unfoldable pub rivalsSay : List (List Got)
 rivalsSay =
     (is 1 ∷ is 0 ∷ [])
     ∷ (is 1 ∷ is 1 ∷ is 2 ∷ is 2 ∷ is 1 ∷ is 0 ∷ [])
@@ -204,26 +197,17 @@ rivalsSay =
 -- ---- the whole table, by the ledgers that the cases are made on
 
 -- what the cases give
-abbrev pub table : Made → List (List Answer)
+abbrev pub table : Made → List (List Got)
 table c = diamond c ++ alone c ++ rivals c
 
 -- what document 01 says
-abbrev pub says : List (List Answer)
+abbrev pub says : List (List Got)
 says = diamondSays ++ aloneSays ++ rivalsSay
 
 -- ---- computed with the test that walks
 
 abbrev made : (List ℕ → Bool) → Made
-made sound =
-    record {
-      book = bookBy sound;
-      poll = pollBy sound;
-      query = readBy sound Query;
-      accepted = readBy sound Accepted;
-      lead = readBy sound Lead;
-      confidence = readBy sound Confidence;
-      members = readBy sound Size;
-    }
+made sound = record { book = bookBy (testBy sound); poll = pollBy (testBy sound); ask = readBy (testBy sound) }
 
 diamond-walked : Passes (sameTable (diamond (made isSoundWalked)) diamondSays)
 unfolding diamond diamondSays same isSoundWalked headerGood genesisGood bookingGood parentsGood stateGood chits bookingsOf opened openWord lookUp hasUnknown hasTwice entered booked polled raiseOne prefer follow settleOne queryOf acceptOne acceptedOf rivalsMost leadOf sizeOf ancestry sweep spread voteOf openCall upTo firstFrom total greatest from walkFrom
@@ -238,8 +222,8 @@ unfolding rivals rivalsSay same isSoundWalked headerGood genesisGood bookingGood
 rivals-walked = tt
 
 -- one ledger's rows, by the calls of the law
-rows-by : (rows : Made → List (List Answer)) (said : List (List Answer)) → Passes (sameTable (rows (made isSoundWalked)) said) → rows theCalls ≡ said
-unfolding theCalls bookCall pollCall queryCall acceptedCall leadCall confidenceCall sizeCall
+rows-by : (rows : Made → List (List Got)) (said : List (List Got)) → Passes (sameTable (rows (made isSoundWalked)) said) → rows theCalls ≡ said
+unfolding theCalls bookCall pollCall testOf
 rows-by rows said walked = ap (λ sound. rows (made sound)) (fun-ext (λ w. sym (walked-is w))) ∙ same-table (rows (made isSoundWalked)) said (passes _ walked)
 
 -- the statement: the cases are as document 01 says

@@ -49,14 +49,18 @@ hasTwice parents = any (λ a. any (λ b. eqb (getD parents b 0) (getD parents a 
 abbrev pub parentNumber : List ℕ → List ℕ → ℕ → ℕ
 parentNumber w parents a = cond (ltb a (length parents)) (numberOf (parentFound w parents a)) none
 
--- ---- what a taken booking leaves
+-- the four parent places
+abbrev pub parentNumbers : List ℕ → List ℕ → List ℕ
+parentNumbers w parents = parentNumber w parents 0 ∷ parentNumber w parents 1 ∷ parentNumber w parents 2 ∷ parentNumber w parents 3 ∷ []
+
+-- ---- what a taken booking leaves, its parents given by number
 
 -- name in four parts, slot, parents, state 0, confidence 0, no ordinal
-abbrev pub newRecord : List ℕ → ℕ → ℕ → List ℕ → List ℕ
-newRecord w name slot parents =
+abbrev pub newRecord : ℕ → ℕ → List ℕ → List ℕ
+newRecord name slot p =
     name / 2 ^ 48 ∷ name / 2 ^ 32 % 65536 ∷ name / 2 ^ 16 % 65536 ∷ name % 65536
     ∷ slot
-    ∷ parentNumber w parents 0 ∷ parentNumber w parents 1 ∷ parentNumber w parents 2 ∷ parentNumber w parents 3
+    ∷ getD p 0 0 ∷ getD p 1 0 ∷ getD p 2 0 ∷ getD p 3 0
     ∷ 0 ∷ 0 ∷ 0 ∷ []
 
 -- in an empty slot it becomes preferred and last, with counter 0; otherwise only the slot's number of bookings rises
@@ -64,6 +68,10 @@ unfoldable pub entered : ℕ → ℕ → List ℕ → List ℕ
 entered s i w = cond (eqb (heldIn w s) 0) (sets w (slotAt s 0) (i ∷ i ∷ 0 ∷ 1 ∷ [])) (withEntry w s heldField (heldIn w s + 1))
 
 -- the booking becomes number n
+abbrev pub bookedWith : List ℕ → ℕ → ℕ → List ℕ → List ℕ
+bookedWith w name slot p =
+    withHeader (entered slot (bookings w) (sets w (recordAt (bookings w) 0) (newRecord name slot p))) bookingsField (bookings w + 1)
+
+-- the same, its parents given by name
 unfoldable pub booked : List ℕ → ℕ → ℕ → List ℕ → List ℕ
-booked w name slot parents =
-    withHeader (entered slot (bookings w) (sets w (recordAt (bookings w) 0) (newRecord w name slot parents))) bookingsField (bookings w + 1)
+booked w name slot parents = bookedWith w name slot (parentNumbers w parents)

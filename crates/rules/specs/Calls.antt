@@ -11,6 +11,8 @@ use Rattle.terms.specs.declared.answer.Reading.{Reading}
 use Rattle.terms.specs.declared.answer.Reading.the-variants.{Query, Accepted, Lead, Confidence, Size}
 use Rattle.terms.specs.declared.answer.Found.{Found}
 use Rattle.terms.specs.declared.answer.Found.the-variants.{At, Absent}
+use Rattle.terms.specs.declared.answer.Tested.{Tested}
+use Rattle.terms.specs.declared.answer.Tested.the-variants.{Fine, Stop}
 use Rattle.terms.specs.declared.answer.Answer.{Answer}
 use Rattle.terms.specs.declared.answer.Answer.the-variants.{Taken, Refused}
 use Rattle.terms.specs.declared.answer.Refusal.the-variants.{
@@ -50,20 +52,40 @@ openCall w s = leaves (openAnswer w s) w (opened s)
 
 -- ---- what the other calls begin with
 
+-- refusals 1 and 2: the first that applies, if any
+abbrev pub testBy : (List ℕ → Bool) → List ℕ → Tested
+testBy sound w =
+    cond (not (eqb (length w) size)) (Stop WrongLength)
+    (cond (not (sound w)) (Stop NotSound)
+    Fine)
+
+unfoldable pub testOf : List ℕ → Tested
+testOf = testBy isSound
+
+-- the rest of a call that no test stops
+abbrev pub unlessStopped : Tested → Answer → Answer
+unlessStopped Fine rest = rest
+unlessStopped (Stop r) rest = Refused r
+
 -- refusal 10 before the rest, which takes the number found
 abbrev pub askedOf : Found → (ℕ → Answer) → Answer
 askedOf (At i) rest = rest i
 askedOf Absent rest = Refused UnknownName
 
--- The other calls first test the workspace. Their test is `isSound`, given at the end of this file; that the section takes it
+-- ---- refusals 7, 8 and 9, which are judged of the parents
+
+abbrev pub parentsAnswer : List ℕ → List ℕ → Answer
+parentsAnswer w parents =
+    cond (hasUnknown w parents) (Refused UnknownParent)
+    (cond (hasTwice parents) (Refused ParentTwice)
+    (cond (eqb (bookings w) mostBookings) (Refused Full)
+    done))
+
+-- The other calls first test the workspace. Their test is `testOf`, given at the end of this file; that the section takes it
 -- lets the table of cases be computed with a faster one of the same results (proofs/Cases.antt).
-module _ (sound : List ℕ → Bool) where
-  -- refusals 1 and 2 before the rest
+module _ (test : List ℕ → Tested) where
   abbrev pub tested : List ℕ → Answer → Answer
-  tested w rest =
-      cond (not (eqb (length w) size)) (Refused WrongLength)
-      (cond (not (sound w)) (Refused NotSound)
-      rest)
+  tested w rest = unlessStopped (test w) rest
 
   -- ---- book: 1, 2, 4, 5, 6, 7, 8, 9
 
@@ -73,10 +95,7 @@ module _ (sound : List ℕ → Bool) where
       (cond (isFound (lookUp w name)) (Refused NameTaken)
       (cond (eqb slot 0 || leb slots slot) (Refused BadSlot)
       (cond (eqb (length parents) 0 || ltb mostParents (length parents)) (Refused BadParents)
-      (cond (hasUnknown w parents) (Refused UnknownParent)
-      (cond (hasTwice parents) (Refused ParentTwice)
-      (cond (eqb (bookings w) mostBookings) (Refused Full)
-      done))))))
+      (parentsAnswer w parents))))
 
   abbrev pub bookBy : List ℕ → ℕ → ℕ → List ℕ → Outcome
   bookBy w name slot parents = leaves (bookAnswer w name slot parents) w (booked w name slot parents)
@@ -106,25 +125,28 @@ module _ (sound : List ℕ → Bool) where
 -- ---- the calls
 
 unfoldable pub bookCall : List ℕ → ℕ → ℕ → List ℕ → Outcome
-bookCall = bookBy isSound
+bookCall = bookBy testOf
 
 unfoldable pub pollCall : List ℕ → ℕ → List ℕ → Outcome
-pollCall = pollBy isSound
+pollCall = pollBy testOf
 
 abbrev pub readingCall : (ℕ → ℤ) → List ℕ → ℕ → Answer
-readingCall = readingBy isSound
+readingCall = readingBy testOf
 
-unfoldable pub queryCall : List ℕ → ℕ → Answer
-queryCall = readBy isSound Query
+abbrev pub readCall : Reading → List ℕ → ℕ → Answer
+readCall = readBy testOf
 
-unfoldable pub acceptedCall : List ℕ → ℕ → Answer
-acceptedCall = readBy isSound Accepted
+abbrev pub queryCall : List ℕ → ℕ → Answer
+queryCall = readCall Query
 
-unfoldable pub leadCall : List ℕ → ℕ → Answer
-leadCall = readBy isSound Lead
+abbrev pub acceptedCall : List ℕ → ℕ → Answer
+acceptedCall = readCall Accepted
 
-unfoldable pub confidenceCall : List ℕ → ℕ → Answer
-confidenceCall = readBy isSound Confidence
+abbrev pub leadCall : List ℕ → ℕ → Answer
+leadCall = readCall Lead
 
-unfoldable pub sizeCall : List ℕ → ℕ → Answer
-sizeCall = readBy isSound Size
+abbrev pub confidenceCall : List ℕ → ℕ → Answer
+confidenceCall = readCall Confidence
+
+abbrev pub sizeCall : List ℕ → ℕ → Answer
+sizeCall = readCall Size

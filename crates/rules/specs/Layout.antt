@@ -70,6 +70,18 @@ withEntry w s f v = set w (slotAt s f) v
 abbrev pub bookingsField : ℕ
 bookingsField = 0
 
+abbrev pub kField : ℕ
+kField = 1
+
+abbrev pub aField : ℕ
+aField = 2
+
+abbrev pub beta1Field : ℕ
+beta1Field = 3
+
+abbrev pub beta2Field : ℕ
+beta2Field = 4
+
 abbrev pub pollsField : ℕ
 pollsField = 5
 
@@ -81,7 +93,7 @@ abbrev pub bookings : List ℕ → ℕ
 bookings w = header w bookingsField
 
 abbrev pub settingIn : List ℕ → Setting
-settingIn w = record { k = header w 1; a = header w 2; beta1 = header w 3; beta2 = header w 4 }
+settingIn w = record { k = header w kField; a = header w aField; beta1 = header w beta1Field; beta2 = header w beta2Field }
 
 -- p, how many polls were taken
 abbrev pub polls : List ℕ → ℕ

@@ -5,9 +5,8 @@ use Rattle.loops.specs.Total.{bit}
 use Rattle.terms.specs.declared.answer.Answer.{Answer}
 use Rattle.terms.specs.Answers.{done}
 use Rattle.rules.specs.Layout.{bookings, slotOf, stateOf, confidenceOf}
-use Rattle.rules.specs.IsSound.{isSound}
 use Rattle.rules.specs.Readings.{isPreferred, acceptedOf}
-use Rattle.rules.specs.Calls.{tested}
+use Rattle.rules.specs.Calls.{testOf, tested}
 
 -- number, slot, state, confidence, preferred, accepted
 unfoldable pub listRow : List ℕ → ℕ → List ℕ
@@ -15,4 +14,4 @@ listRow w i = i ∷ slotOf w i ∷ stateOf w i ∷ confidenceOf w i ∷ bit (isP
 
 -- it may be refused with 1 or 2 only
 unfoldable pub listCall : List ℕ → Answer
-listCall w = tested isSound w done
+listCall w = tested testOf w done

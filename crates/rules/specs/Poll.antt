@@ -74,9 +74,13 @@ settled m n w = upTo (settleOne m) n w
 abbrev pub failed : List ℕ → ℕ → List ℕ
 failed w i = noted w i 1
 
--- on success the state becomes 2, every member gains one confidence, and then each is settled
+-- on success the state becomes 2, every member of m gains one confidence, and then each is settled
+abbrev pub succeededWith : List ℕ → List ℕ → ℕ → List ℕ
+succeededWith m w i = settled m (bookings w) (raised m (bookings w) (noted w i 2))
+
+-- the members are those of the ancestry
 abbrev pub succeeded : List ℕ → ℕ → List ℕ
-succeeded w i = settled (ancestry w i) (bookings w) (raised (ancestry w i) (bookings w) (noted w i 2))
+succeeded w i = succeededWith (ancestry w i) w i
 
 -- booking i after a taken poll
 unfoldable pub polled : List ℕ → ℕ → List ℕ → List ℕ

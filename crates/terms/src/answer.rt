@@ -1,4 +1,4 @@
-// What a call answers, and what a lookup finds.
+// What a call answers, what a test tells and what a lookup finds.
 ghost use mathlib.Core.Path.{_≡_};
 ghost use Rattle.terms.specs.Answers.{number, refusalNumber, value};
 
@@ -32,6 +32,12 @@ pub enum Reading {
     Lead,
     Confidence,
     Size,
+}
+
+// Whether lent words are a ledger, or what stops a call on them.
+pub enum Tested {
+    Fine,
+    Stop(Refusal),
 }
 
 // The number of a booking, or that there is none.

@@ -2,6 +2,6 @@
 pub mod Word
 pub mod Begun
 pub mod Rows
-pub mod Numbers
+pub mod Booked
 pub mod Held
 pub mod Settles

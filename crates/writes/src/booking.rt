@@ -5,17 +5,16 @@ ghost use Prim.Native.Nat.{_<_};
 ghost use lib.ListN.{length};
 ghost use lib.Seq.{sets};
 ghost use Rattle.rules.specs.Layout.{size, mostBookings, slots, recordWords, none, bookings, recordAt, heldIn};
-ghost use Rattle.rules.specs.Book.{entered};
 ghost use Rattle.rules.specs.Sound.{Ledger};
-ghost use Rattle.writes.specs.Numbered.{newRow, bookedWith};
+ghost use Rattle.rules.specs.Book.{newRecord, entered, bookedWith};
 
 // The record of a booking: the name's four parts, highest first, the slot, the parents, state 0, confidence 0 and no ordinal.
-fn new_row(
+fn new_record(
     name: u64,
     slot: u16,
     parents: &[u16; layout::MOST_PARENTS],
 ) -> [u16; layout::RECORD_WORDS]
-    ensures { λ r. ⌜ r ≡ newRow name slot (now (parents .entry)) ⌝ }
+    ensures { λ r. ⌜ r ≡ newRecord name slot (now (parents .entry)) ⌝ }
 {
     [
         (name >> 48) as u16,
@@ -64,7 +63,7 @@ pub fn write_booking(w: &mut [u16], name: u64, slot: u16, parents: &[u16; layout
     ensures { λ _. ⌜ now (w .exit) ≡ bookedWith (now (w .entry)) name slot (now (parents .entry)) ⌝ }
 {
     let n = words::header(w, layout::BOOKINGS);
-    let row = new_row(name, slot, parents);
+    let row = new_record(name, slot, parents);
     put_record(w, words::wide(n), &row);
     enter_slot(w, words::wide(slot), n);
     words::set_header(w, layout::BOOKINGS, n + 1);

@@ -4,9 +4,7 @@ use mathlib.Core.Bool.{false}
 use mathlib.Core.List.{List}
 use Prim.Native.Nat.{ℕ}
 use borrow.Author.Needs.{needs}
-use Rattle.rules.specs.Book.{hasUnknown}
-use Rattle.writes.specs.Numbered.{parentNumbers}
-use Rattle.writes.proofs.Numbers.{bookedWith-numbers}
+use Rattle.rules.specs.Book.{hasUnknown, parentNumbers, booked}
 use Rattle.known_book_parents.proofs.Parents.{withNumbers-all, firstUnknown-none, looked-refusal, looked-unknown}
 use Rattle.known_book_parents.proofs.Judged.{parents-unknown, parents-twice, parents-full, parents-taken, not-full}
 use Rattle.known_book_parents.proofs.book_parents.Statement.{statement}
@@ -88,11 +86,12 @@ same-length-4 : tie.Need-same-length-4
 same-length-4 c = search needs
 
 taken : tie.Need-returns-4
+unfolding booked
 taken c =
     let G = c .before .before .before .before .before in
     let J = G .before .before .before in
     let known = sym (unknown-is J) ∙ G .before .before .if1 .left in
-    rw (c .before .before .write-booking .ensures, numbered J known, bookedWith-numbers)
+    rw (c .before .before .write-booking .ensures, numbered J known)
     (parents-taken _ _ _ _ known (sym (J .before .before .has-twice .ensures) ∙ G .before .if2 .left) (rw (J .how-many .ensures) at (G .if3 .left)))
 
 pub book-parents-spec : {M : Type 1} → statement M

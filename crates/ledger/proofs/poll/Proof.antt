@@ -2,7 +2,7 @@
 use mathlib.Core.Path.{sym, _∙_}
 use borrow.Author.Needs.{needs}
 use Rattle.rules.specs.Calls.{pollCall}
-use Rattle.ledger_test.proofs.Testing.{fine-ledger, stop-leaves}
+use Rattle.rule_laws.proofs.Tested.{fine-ledger, stop-leaves}
 use Rattle.ledger.proofs.poll.Statement.{statement}
 use Rattle.ledger.proofs.poll.Tie as tie
 

@@ -1,6 +1,5 @@
 -- The call is the reading of its kind.
 use borrow.Author.Needs.{needs}
-use Rattle.rules.specs.Calls.{acceptedCall}
 use Rattle.ledger_reads.proofs.accepted.Statement.{statement}
 use Rattle.ledger_reads.proofs.accepted.Tie as tie
 
@@ -8,7 +7,6 @@ read-requires : tie.Need-read-requires
 read-requires c κs = search needs
 
 returns : tie.Need-returns
-unfolding acceptedCall
 returns c = c .read .ensures
 
 pub accepted-spec : {M : Type 1} → statement M

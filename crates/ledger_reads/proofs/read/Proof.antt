@@ -2,7 +2,7 @@
 use mathlib.Core.Path.{sym, ap, _∙_}
 use borrow.Author.Needs.{needs}
 use Rattle.rules.specs.Calls.{askedOf}
-use Rattle.ledger_test.proofs.Testing.{fine-ledger, stop-tested}
+use Rattle.rule_laws.proofs.Tested.{fine-ledger, stop-tested}
 use Rattle.ledger_reads.proofs.read.Statement.{statement}
 use Rattle.ledger_reads.proofs.read.Tie as tie
 

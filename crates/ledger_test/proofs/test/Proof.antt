@@ -1,7 +1,7 @@
 -- The two tests in their order decide.
 use borrow.Author.Needs.{needs}
 use borrow.Author.Tests.{eq-eqb, ne-eqb}
-use Rattle.ledger_test.specs.Test.{testOf}
+use Rattle.rules.specs.Calls.{testOf}
 use Rattle.ledger_test.proofs.test.Statement.{statement}
 use Rattle.ledger_test.proofs.test.Tie as tie
 

@@ -6,7 +6,7 @@ use native.Mathlib.Omega.{arith}
 use borrow.Author.Needs.{needs}
 use Rattle.rules.specs.Layout.{recordWords, heldField}
 use Rattle.rule_laws.proofs.Words.{entry-setsRecord-kept}
-use Rattle.writes.proofs.Numbers.{bookedWith-steps}
+use Rattle.writes.proofs.Booked.{bookedWith-steps}
 use Rattle.writes.proofs.Held.{held-most}
 use Rattle.writes.proofs.booking.write_booking.Statement.{statement}
 use Rattle.writes.proofs.booking.write_booking.Tie as tie
@@ -14,8 +14,8 @@ use Rattle.writes.proofs.booking.write_booking.Tie as tie
 header-requires : tie.Need-header-requires
 header-requires c κs = search needs
 
-new-row-requires : tie.Need-new-row-requires
-new-row-requires c κs = search needs
+new-record-requires : tie.Need-new-record-requires
+new-record-requires c κs = search needs
 
 wide-requires : tie.Need-wide-requires
 wide-requires c κs = search needs
@@ -34,8 +34,8 @@ enter-slot-requires c κs =
     let P = c .before .before .before .before in
     let N = P .before .before .before .before in
     let S = N .before .before .before .before in
-    let short : length (N .new-row .result) ≤ recordWords = omega (arith, ap length (N .new-row .ensures)) in
-    let kept = entry-setsRecord-kept (S .args .w .now) (P .before .before .wide .result) (N .new-row .result) (c .wide2 .result) heldField (search needs) short in
+    let short : length (N .new-record .result) ≤ recordWords = omega (arith, ap length (N .new-record .ensures)) in
+    let kept = entry-setsRecord-kept (S .args .w .now) (P .before .before .wide .result) (N .new-record .result) (c .wide2 .result) heldField (search needs) short in
     (search needs, search needs, rw (P .put-record .ensures, kept, c .wide2 .ensures .0) (omega (arith, held-most (S .pre .0) (S .args .slot) (search needs))))
 
 add-set-header : tie.Need-add-set-header
@@ -56,7 +56,7 @@ returns c =
     c .before .before .set-header .ensures
     ∙ bookedWith-steps (S .args .w .now) (S .args .name) (S .args .slot) (S .args .parents .now)
     (N .before .header .ensures)
-    (N .new-row .ensures)
+    (N .new-record .ensures)
     (rw (P .before .before .wide .ensures .0) at (P .put-record .ensures))
     (rw (E .before .wide2 .ensures .0) at (E .enter-slot .ensures))
 
@@ -65,7 +65,7 @@ write-booking-spec =
     tie.close
     (tie.spec
     header-requires
-    new-row-requires
+    new-record-requires
     wide-requires
     slice-aggregate-put-record
     put-record-requires

@@ -1,2 +1,0 @@
--- Laws that the public calls share. They assume nothing.
-pub mod Testing

@@ -1,2 +1,0 @@
--- What the public calls ask of a workspace first.
-pub mod Test

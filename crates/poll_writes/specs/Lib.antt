@@ -1,2 +1,0 @@
--- What a successful poll leaves, for marks that are handed in.
-pub mod Marked
