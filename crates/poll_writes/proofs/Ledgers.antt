@@ -12,7 +12,6 @@ use Rattle.rule_laws.proofs.Noted.{length-noted, field-noted-beside, confidence
 use Rattle.rule_laws.proofs.Raised.{length-raised, field-raised-beside, entry-raised-kept}
 use Rattle.writes.specs.Raising.{Raising}
 use Rattle.writes.specs.Settling.{Settling}
-use Rattle.writes.proofs.Settles.{Moved, moved-settling}
 
 -- ---- a ledger
 
@@ -24,7 +23,7 @@ module _ {w : List ℕ} (g : Ledger w) where
     confidenceFits = λ i l. omega (arith, confidence-le w (g .sound) i l);
   }
 
-  pub Ledger→Settling : Settling w (bookings w) 0
+  pub Ledger→Settling : Settling w (bookings w)
   Ledger→Settling = record {
     whole = g .whole;
     few = g .sound .bookingsMost;
@@ -43,18 +42,19 @@ module _ (w : List ℕ) (i state : ℕ) where
     confidenceFits = λ j l. rw (confidence-noted w i state j) (h .confidenceFits j l);
   }
 
-  pub raised-noted-settling : (m : List ℕ) (n : ℕ) → i < mostBookings → Settling w n 0 → Settling (raised m n (noted w i state)) n 0
-  raised-noted-settling m n b h = moved-settling moved h
+  pub raised-noted-settling : (m : List ℕ) (n : ℕ) → i < mostBookings → Settling w n → Settling (raised m n (noted w i state)) n
+  raised-noted-settling m n b h = record {
+    whole = length-raised m n (noted w i state) ∙ length-noted w i state ∙ h .whole;
+    few = h .few;
+    slotFits = λ j l. rw (slotKept j) (h .slotFits j l);
+    preferredFits = λ j l. rw (slotKept j, entryKept (slotOf w j) preferredField) (h .preferredFits j l);
+    counterFits = λ j l. rw (slotKept j, entryKept (slotOf w j) counterField) (h .counterFits j l);
+  }
     where
+      slotKept : (j : ℕ) → slotOf (raised m n (noted w i state)) j ≡ slotOf w j
+      slotKept j =
+          field-raised-beside m n (noted w i state) j slotField (omega arith) (omega arith)
+          ∙ field-noted-beside w i state j slotField (omega arith) (omega arith) (omega arith)
+
       entryKept : (s f : ℕ) → entry (raised m n (noted w i state)) s f ≡ entry w s f
       entryKept s f = entry-raised-kept m n (noted w i state) s f (h .few) ∙ entry-noted-kept w i state s f b
-
-      moved : Moved w (raised m n (noted w i state)) mostBookings
-      moved = record {
-        lengthSame = length-raised m n (noted w i state) ∙ length-noted w i state;
-        slotSame = λ j l.
-            field-raised-beside m n (noted w i state) j slotField (omega arith) (omega arith)
-            ∙ field-noted-beside w i state j slotField (omega arith) (omega arith) (omega arith);
-        preferredNext = λ s q. rw (entryKept s preferredField) q;
-        counterNext = λ s q. rw (entryKept s counterField) q;
-      }

@@ -11,9 +11,6 @@ pub mod Acceptance
 pub mod Refusals
 pub mod Ranges
 pub mod Noted
-pub mod SettledWords
-pub mod Settled
-pub mod Settling
 pub mod Ordinals
 pub mod PolledSound
 pub mod Succeeded

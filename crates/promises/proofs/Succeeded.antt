@@ -35,9 +35,9 @@ use Rattle.rule_laws.proofs.Raised.{
 }
 use Rattle.promises.proofs.Taken.{Led}
 use Rattle.promises.proofs.Noted.{Noted, noted-Noted, Noted-kept, Noted-bookings}
-use Rattle.promises.proofs.SettledWords.{length-settled, header-settled-kept, field-settled-kept, held-settled-kept}
-use Rattle.promises.proofs.Settled.{Settleable}
-use Rattle.promises.proofs.Settling.{
+use Rattle.rule_laws.proofs.Settled.{length-settled, header-settled-kept, field-settled-kept, held-settled-kept}
+use Rattle.rule_laws.proofs.SettledTurns.{SlotsFit}
+use Rattle.rule_laws.proofs.SettledSlots.{
   Among,
   entry-settled-empty,
   preferred-settled-among,
@@ -74,8 +74,8 @@ module _ (w : List ℕ) (i : ℕ) (ledger : Ledger w) (below : i < bookings w) w
   raised-entry s g =
       entry-raised-kept (ancestry w i) (bookings w) (noted w i 2) s g (ledger .sound .bookingsMost) ∙ entry-noted-kept w i 2 s g (booking-lt w (ledger .sound) i below)
 
-  raised-Settleable : Settleable (raisedWords w i) (bookings w)
-  raised-Settleable = record {
+  raised-SlotsFit : SlotsFit (raisedWords w i) (bookings w)
+  raised-SlotsFit = record {
     whole = raised-Noted .long ∙ ledger .whole;
     few = ledger .sound .bookingsMost;
     fits = λ j h. omega (arith, raised-slot j h, slotOf-lt w (ledger .sound) j h);
@@ -108,18 +108,18 @@ module _ (w : List ℕ) (i : ℕ) (ledger : Ledger w) (below : i < bookings w) w
         ∙ confidence-raised-rest (ancestry w i) (bookings w) (noted w i 2) j l
         ∙ confidence-noted w i 2 j;
     empty = λ s g e h.
-        entry-settled-empty (ancestry w i) (raisedWords w i) (bookings w) raised-Settleable s g h (λ k u q. slotOf-absent w s k e u (sym (raised-slot k u) ∙ q))
+        entry-settled-empty (ancestry w i) (raisedWords w i) (bookings w) raised-SlotsFit s g h (λ k u q. slotOf-absent w s k e u (sym (raised-slot k u) ∙ q))
         ∙ raised-entry s g;
     held = λ s. held-settled-kept (ancestry w i) (bookings w) (raisedWords w i) s ∙ raised-entry s heldField;
     preferred = λ s.
         rw (← raised-entry s preferredField)
         (succeeded-among s (preferredIn (raisedWords w i) s) (preferredIn (succeeded w i) s)
-        (preferred-settled-among (ancestry w i) (raisedWords w i) (bookings w) raised-Settleable s));
+        (preferred-settled-among (ancestry w i) (raisedWords w i) (bookings w) raised-SlotsFit s));
     last = λ s.
         rw (← raised-entry s lastField)
         (succeeded-among s (lastIn (raisedWords w i) s) (lastIn (succeeded w i) s)
-        (last-settled-among (ancestry w i) (raisedWords w i) (bookings w) raised-Settleable s));
-    counter = λ s. omega (arith, counter-settled-le (ancestry w i) (raisedWords w i) (bookings w) raised-Settleable s, raised-entry s counterField);
+        (last-settled-among (ancestry w i) (raisedWords w i) (bookings w) raised-SlotsFit s));
+    counter = λ s. omega (arith, counter-settled-le (ancestry w i) (raisedWords w i) (bookings w) raised-SlotsFit s, raised-entry s counterField);
   }
 
   -- ---- the preferred one still leads
@@ -137,7 +137,7 @@ module _ (w : List ℕ) (i : ℕ) (ledger : Ledger w) (below : i < bookings w) w
 
     settled-led : confidenceOf (succeeded w i) k ≤ confidenceOf (succeeded w i) (preferredIn (succeeded w i) (slotOf (succeeded w i) k))
     settled-led =
-        led-settled (ancestry w i) (raisedWords w i) (bookings w) raised-Settleable k h
+        led-settled (ancestry w i) (raisedWords w i) (bookings w) raised-SlotsFit k h
         (rw raised-preferred (preferredIn-lt w (ledger .sound) k h)) raised-led
 
   pub succeeded-led : Led w → Led (succeeded w i)

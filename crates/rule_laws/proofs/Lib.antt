@@ -12,5 +12,8 @@ pub mod Accepted
 pub mod Readings
 pub mod Noted
 pub mod Raised
+pub mod Settled
+pub mod SettledTurns
+pub mod SettledSlots
 pub mod Calls
 pub mod Tested

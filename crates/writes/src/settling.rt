@@ -49,7 +49,7 @@ fn settle_one(w: &mut [u16], marks: &[u8], j: usize)
 
 // Each member below n in rising number.
 pub fn settle(w: &mut [u16], marks: &[u8], n: usize)
-    requires { ⌜ Settling (now w) n 0 × (length (now marks) ≡ mostBookings) ⌝ }
+    requires { ⌜ Settling (now w) n × (length (now marks) ≡ mostBookings) ⌝ }
     ensures { λ _. ⌜ now (w .exit) ≡ settled (now (marks .entry)) n (now (w .entry)) ⌝ }
 {
     for j in 0..n {

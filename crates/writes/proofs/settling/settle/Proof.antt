@@ -1,4 +1,4 @@
--- The words are those after the turns below j, and after j turns a counter has risen by at most j.
+-- The words are those after the turns below j, which leave the slot of j fit for its turn.
 use Prim.Native.Nat.{_≤_, _-_}
 use mathlib.Core.Path.{_≡_, sym}
 use lib.ListN.{length}
@@ -7,7 +7,7 @@ use borrow.Author.Needs.{needs}
 use Rattle.loops.proofs.Turns.{upTo-zero, upTo-more}
 use Rattle.rules.specs.Layout.{size}
 use Rattle.rules.specs.Poll.{settled}
-use Rattle.writes.proofs.Settles.{settled-settling, Settling→Settleable}
+use Rattle.writes.proofs.Settles.{settled-settleable}
 use Rattle.writes.proofs.settling.settle.Statement.{statement}
 use Rattle.writes.proofs.settling.settle.Tie as tie
 
@@ -24,7 +24,7 @@ settle-one-requires : tie.Need-settle-one-requires Inv-loop μ-loop
 settle-one-requires c κs =
     let L = c .before .before .loop in
     let S = c .before .before .before .before .before in
-    (rw (L .inv .2) (Settling→Settleable (settled-settling (S .args .marks .now) (S .args .n) (L .j) (omega arith) (S .args .w .now) (S .pre .0)) (omega arith)), search needs, omega arith)
+    (rw (L .inv .2) (settled-settleable (S .args .marks .now) (S .args .w .now) (S .args .n) (S .pre .0) (L .j) (omega arith)), search needs, omega arith)
 
 add-j : tie.Need-add-j Inv-loop μ-loop
 add-j c = omega arith

@@ -26,14 +26,14 @@ use Rattle.rules.specs.Layout.{
 }
 use Rattle.rules.specs.Ancestry.{isMember}
 use Rattle.rules.specs.Poll.{settled}
-use Rattle.promises.proofs.SettledWords.{field-settled-kept}
-use Rattle.promises.proofs.Settled.{Settles, Settleable, settled-carried}
+use Rattle.rule_laws.proofs.Settled.{field-settled-kept}
+use Rattle.rule_laws.proofs.SettledTurns.{Settles, SlotsFit, settled-carried}
 
 -- one of the n first records, with slot s
 abbrev pub Among : List ℕ → (n s i : ℕ) → Type 0
 Among u n s i = (i < n) × (slotOf u i ≡ s)
 
-module _ (m u : List ℕ) (n : ℕ) (able : Settleable u n) where
+module _ (m u : List ℕ) (n : ℕ) (able : SlotsFit u n) where
   -- ---- a slot without bookings is never touched
 
   pub entry-settled-empty : (s g : ℕ) → g < slotWords → ((k : ℕ) → k < n → slotOf u k ≢ s) → entry (settled m n u) s g ≡ entry u s g
@@ -72,18 +72,18 @@ module _ (m u : List ℕ) (n : ℕ) (able : Settleable u n) where
 
   module _ (s : ℕ) where
     -- as before, or risen or started anew by a member below t
-    abbrev Counted : ℕ → List ℕ → Type 0
-    Counted t v = (counterIn v s ≡ counterIn u s) ⊎ ((lastIn v s < t) × (counterIn v s ≤ counterIn u s + 1))
+    abbrev Risen : ℕ → List ℕ → Type 0
+    Risen t v = (counterIn v s ≡ counterIn u s) ⊎ ((lastIn v s < t) × (counterIn v s ≤ counterIn u s + 1))
 
-    counted-turn : (j : ℕ) (v v′ : List ℕ) → Settles u v v′ j → Counted j v → Counted (suc j) v′
-    counted-turn j v v′ turn c = go (ℕ-discrete s (slotOf u j)) c
+    risen-turn : (j : ℕ) (v v′ : List ℕ) → Settles u v v′ j → Risen j v → Risen (suc j) v′
+    risen-turn j v v′ turn c = go (ℕ-discrete s (slotOf u j)) c
       where
-        here : lastIn v′ s ≡ j → ((lastIn v s ≡ j) × (counterIn v′ s ≡ counterIn v s + 1)) ⊎ (counterIn v′ s ≡ 0) → Counted j v → Counted (suc j) v′
+        here : lastIn v′ s ≡ j → ((lastIn v s ≡ j) × (counterIn v′ s ≡ counterIn v s + 1)) ⊎ (counterIn v′ s ≡ 0) → Risen j v → Risen (suc j) v′
         here last (inl up) (inl e) = inr (omega arith)
         here last (inl up) (inr e) = absurd (omega arith)
         here last (inr zeroed) e = inr (omega arith)
 
-        go : Dec (s ≡ slotOf u j) → Counted j v → Counted (suc j) v′
+        go : Dec (s ≡ slotOf u j) → Risen j v → Risen (suc j) v′
         go (yes q) e = here (rw q (turn .last)) (rw q (turn .counter)) e
         go (no d) (inl e) = inl (turn .others s counterField d (omega arith) ∙ e)
         go (no d) (inr e) = inr (omega (arith, turn .others s lastField d (omega arith), turn .others s counterField d (omega arith)))
@@ -91,9 +91,9 @@ module _ (m u : List ℕ) (n : ℕ) (able : Settleable u n) where
     pub counter-settled-le : counterIn (settled m n u) s ≤ counterIn u s + 1
     counter-settled-le =
         ⊎-elim (λ (e : counterIn (settled m n u) s ≡ counterIn u s). omega arith) (λ e. e .1)
-        (settled-carried m u Counted n able
+        (settled-carried m u Risen n able
         (λ j v e c. ⊎-elim inl (λ (r : (lastIn v s < j) × (counterIn v s ≤ counterIn u s + 1)). inr (omega arith)) c)
-        (λ j v v′ l. counted-turn j v v′)
+        (λ j v v′ l. risen-turn j v v′)
         (inl refl))
 
   -- ---- the preferred one leads: a turn puts it at least level with its member, and never lower

@@ -32,7 +32,7 @@ use Rattle.rules.specs.Layout.{
 }
 use Rattle.rules.specs.Ancestry.{isMember}
 use Rattle.rules.specs.Poll.{prefer, follow, settleOne, settled}
-use Rattle.promises.proofs.SettledWords.{
+use Rattle.rule_laws.proofs.Settled.{
   isAbove,
   length-prefer,
   word-prefer-other,
@@ -120,14 +120,14 @@ module _ (u v : List ℕ) (j : ℕ)
 
 -- ---- an invariant is carried through the turns
 
--- words whose n first records can be settled
-pub record Settleable (u : List ℕ) (n : ℕ) : Type 0 where
+-- words whose n first records have slots
+pub record SlotsFit (u : List ℕ) (n : ℕ) : Type 0 where
   pub whole : length u ≡ size
   pub few : n ≤ mostBookings
   pub fits : (j : ℕ) → j < n → slotOf u j < slots
 
 module _ (m u : List ℕ) (P : ℕ → List ℕ → Type 0) where
-  pub settled-carried : (n : ℕ) → Settleable u n
+  pub settled-carried : (n : ℕ) → SlotsFit u n
       → ((j : ℕ) (v : List ℕ) → isMember m j ≡ false → P j v → P (suc j) v)
       → ((j : ℕ) (v v′ : List ℕ) → j < n → Settles u v v′ j → P j v → P (suc j) v′)
       → P 0 u → P n (settled m n u)
@@ -135,7 +135,7 @@ module _ (m u : List ℕ) (P : ℕ → List ℕ → Type 0) where
   settled-carried zero able pass turn start = start
   settled-carried (suc n) able pass turn start = go (isMember m n) refl (settled-carried n fewer pass (λ j v v′ l. turn j v v′ (omega arith)) start)
     where
-      fewer : Settleable u n
+      fewer : SlotsFit u n
       fewer = record { whole = able .whole; few = omega arith; fits = λ j l. able .fits j (omega arith) }
 
       before : List ℕ
