@@ -1,3 +1,2 @@
 -- Laws that several proofs cite, or that speak of the definitions alone. They assume nothing.
-pub mod States
 pub mod Polled

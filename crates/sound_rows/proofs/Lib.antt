@@ -1,3 +1,2 @@
 -- Laws that several proofs cite. They assume nothing.
 pub mod Few
-pub mod States

@@ -1,2 +1,3 @@
--- Cases of the definitions in specs/, computed.
+-- Cases of the definitions in specs/, computed, and the law of states.
 pub mod Cases
+pub mod States

@@ -1,15 +1,10 @@
 -- The state word is read as one of four states, and all but the first say that the booking was polled.
-use mathlib.Core.Path.{_≡_, sym, ap, _∙_}
-use mathlib.Core.Bool.{not}
-use lib.Dec.{eqb}
+use native.Mathlib.Omega.{arith}
 use borrow.Author.Needs.{needs}
-use Rattle.rules.specs.Layout.{stateOf}
-use Rattle.known_poll.proofs.States.{isOver, isOver-says}
+use Rattle.terms.specs.declared.vote.State.the-variants.{Waiting, NoChit, Chit, Unknown}
+use Rattle.terms.proofs.States.{state-reads, unknown-other}
 use Rattle.known_poll.proofs.is_polled.Statement.{statement}
 use Rattle.known_poll.proofs.is_polled.Tie as tie
-
-says : (R : tie.After-read-state) → isOver (R .read-state .result) ≡ not (eqb (stateOf (R .before .before .before .args .w .now) (R .before .before .before .args .i)) 0)
-says R = isOver-says _ _ (R .read-state .ensures) ∙ ap (λ x. not (eqb x 0)) (R .before .field .ensures)
 
 field-requires : tie.Need-field-requires
 field-requires c κs = search needs
@@ -30,16 +25,20 @@ enum-told-4 : tie.Need-enum-told-4
 enum-told-4 c = search needs
 
 waiting : tie.Need-returns
-waiting c = ap isOver (sym (c .enum-told .given .1)) ∙ says (c .before .before)
+waiting c =
+    rw (state-reads Waiting (c .before .before .before .field .ensures) (c .before .before .read-state .ensures) (c .enum-told .given .1))
 
 failed-poll : tie.Need-returns-2
-failed-poll c = ap isOver (sym (c .enum-told2 .given .1)) ∙ says (c .before .before)
+failed-poll c =
+    rw (state-reads NoChit (c .before .before .before .field .ensures) (c .before .before .read-state .ensures) (c .enum-told2 .given .1))
 
 chit : tie.Need-returns-3
-chit c = ap isOver (sym (c .enum-told3 .given .1)) ∙ says (c .before .before)
+chit c =
+    rw (state-reads Chit (c .before .before .before .field .ensures) (c .before .before .read-state .ensures) (c .enum-told3 .given .1))
 
 unknown : tie.Need-returns-4
-unknown c = ap isOver (sym (c .enum-told4 .given .1)) ∙ says (c .before .before)
+unknown c =
+    rw (unknown-other 0 (omega arith) (state-reads Unknown (c .before .before .before .field .ensures) (c .before .before .read-state .ensures) (c .enum-told4 .given .1)))
 
 pub is-polled-spec : {M : Type 1} → statement M
 is-polled-spec =

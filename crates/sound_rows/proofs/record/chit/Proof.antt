@@ -1,7 +1,8 @@
 -- The state read tells the state word, and its test against 2 computes.
+use native.Mathlib.Omega.{arith}
 use borrow.Author.Needs.{needs}
 use Rattle.terms.specs.declared.vote.State.the-variants.{Waiting, NoChit, Chit, Unknown}
-use Rattle.sound_rows.proofs.States.{state-reads, unknown-chit}
+use Rattle.terms.proofs.States.{state-reads, unknown-other}
 use Rattle.sound_rows.proofs.record.chit.Statement.{statement}
 use Rattle.sound_rows.proofs.record.chit.Tie as tie
 
@@ -37,7 +38,7 @@ is-chit c =
 
 unknown : tie.Need-returns-4
 unknown c =
-    rw (unknown-chit (state-reads Unknown (c .before .before .before .field .ensures) (c .before .before .read-state .ensures) (c .enum-told4 .given .1)))
+    rw (unknown-other 2 (omega arith) (state-reads Unknown (c .before .before .before .field .ensures) (c .before .before .read-state .ensures) (c .enum-told4 .given .1)))
 
 pub chit-spec : {M : Type 1} → statement M
 chit-spec =

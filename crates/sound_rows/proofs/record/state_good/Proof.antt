@@ -3,7 +3,7 @@ use borrow.Author.Tests.{lt-leb}
 use borrow.Author.Needs.{needs}
 use Rattle.rules.specs.IsSound.{stateGood}
 use Rattle.terms.specs.declared.vote.State.the-variants.{Waiting, NoChit, Chit, Unknown}
-use Rattle.sound_rows.proofs.States.{state-reads}
+use Rattle.terms.proofs.States.{state-reads}
 use Rattle.sound_rows.proofs.record.state_good.Statement.{statement}
 use Rattle.sound_rows.proofs.record.state_good.Tie as tie
 

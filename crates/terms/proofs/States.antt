@@ -1,13 +1,13 @@
 -- What the word is where a state was read off it.
 use mathlib.Core.Path.{_≡_, refl, sym, subst, ap, _∙_}
 use mathlib.Core.Bool.{Bool, true, false, cond}
-use Prim.Native.Nat.{ℕ, _<_}
+use Prim.Native.Nat.{ℕ, _≤_, _<_}
 use native.Mathlib.Omega.{arith}
 use lib.Dec.{eqb}
 use borrow.Author.Tests.{eqb-true, eqb-false, ne-eqb}
 use Rattle.terms.specs.Votes.{stateSays}
 use Rattle.terms.specs.declared.vote.State.{State}
 use Rattle.terms.specs.declared.vote.State.the-variants.{Waiting, NoChit, Chit, Unknown}
 
 -- the words that read as the state
 abbrev pub Reads : State → ℕ → Type 0
@@ -32,9 +32,9 @@ reads s = first (eqb s 0) refl
     first true e = eqb-true s 0 e
     first false e = second (eqb s 1) refl (eqb-false s 0 e)
 
--- a word past the states is no chit
-pub unknown-chit : {s : ℕ} → 2 < s → eqb s 2 ≡ false
-unknown-chit {s} h = ne-eqb s 2 (λ q. omega arith)
+-- a word past the states is none of them
+pub unknown-other : {s : ℕ} (t : ℕ) → t ≤ 2 → 2 < s → eqb s t ≡ false
+unknown-other {s} t l h = ne-eqb s t (λ q. omega arith)
 
 -- the state t was read off x, which is the word s
 pub state-reads : {s x : ℕ} {r : State} (t : State) → x ≡ s → r ≡ stateSays x → r ≡ t → Reads t s
