@@ -14,8 +14,8 @@ use Rattle.line_keyword.specs.declared.Keyword.the-variants.{Open, Book,
 unfoldable pub isSame : List ℕ → List ℕ → Bool
 isSame a b = eqb (length a) (length b) && all (λ i. eqb (getD a i 0) (getD b i 0)) (length a)
 
-abbrev pub readingOf : List ℕ → Keyword
-readingOf word =
+abbrev pub readingWord : List ℕ → Keyword
+readingWord word =
     cond (isSame word (bytes "query")) (Read Query)
     (cond (isSame word (bytes "accepted")) (Read Accepted)
     (cond (isSame word (bytes "lead")) (Read Lead)
@@ -29,4 +29,4 @@ keywordOf word =
     (cond (isSame word (bytes "book")) Book
     (cond (isSame word (bytes "poll")) Poll
     (cond (isSame word (bytes "list")) ListAll
-    (readingOf word))))
+    (readingWord word))))

@@ -2,7 +2,7 @@
 use terms::answer::Reading;
 ghost use mathlib.Core.Path.{_≡_};
 ghost use mathlib.Core.Bool.{cond};
-ghost use Rattle.line_keyword.specs.Keywords.{isSame, keywordOf, readingOf};
+ghost use Rattle.line_keyword.specs.Keywords.{isSame, keywordOf, readingWord};
 
 // What the first word of a line asks for.
 pub enum Keyword {
@@ -38,7 +38,7 @@ fn either(word: &[u8], text: &[u8], yes: Keyword, no: Keyword) -> Keyword
 
 // The keyword of a reading.
 fn read_reading(word: &[u8]) -> Keyword
-    ensures { λ r. ⌜ r ≡ readingOf (now (word .entry)) ⌝ }
+    ensures { λ r. ⌜ r ≡ readingWord (now (word .entry)) ⌝ }
 {
     let size = either(
         word,

@@ -16,7 +16,7 @@ use Rattle.loops.proofs.Turns.{upTo-zero, upTo-more}
 use Rattle.text_bytes.specs.Bytes.{digit, minus}
 use Rattle.line_number.specs.declared.Number.{Number}
 use Rattle.line_number.specs.declared.Number.the-variants.{Value, Bad}
-use Rattle.line_number.specs.Numbers.{digitsMost, isDigit, valueOf, isNumber, numberOf, moreOf, voteMost, minusMost, negatedOf, voteOf}
+use Rattle.line_number.specs.Numbers.{digitsMost, isDigit, valueOf, isNumber, numberRead, moreOf, voteMost, minusMost, negatedOf, voteRead}
 use Rattle.line_number.proofs.Parts.{rest-lent}
 
 -- ---- a digit more
@@ -92,16 +92,16 @@ module _ {most : ℕ} {word : List ℕ} {i value : ℕ} (r : Read most word i va
       let g : valueOf word (i + 1) ≤ valueOf word (length word) = rw (← e) (valueOf-grows word (i + 1) (length word - (i + 1))) in
       omega (arith, valueOf-more word i, r .soFar)
 
-  pub read-refused : i < length word → moreOf most value (getD word i 0) ≡ Bad → numberOf most word ≡ Bad
-  unfolding numberOf isNumber
+  pub read-refused : i < length word → moreOf most value (getD word i 0) ≡ Bad → numberRead most word ≡ Bad
+  unfolding numberRead isNumber
   read-refused h e =
       ⊎-elim
       (λ (q : isDigit (getD word i 0) ≡ false). simp (all-fails (λ j. isDigit (getD word j 0)) (length word) i h q, and-false))
       (λ (q : most < next most value (getD word i 0)). simp (lt-leb (valueOf word (length word)) most (past h q), and-false))
       (more-refused most value (getD word i 0) e)
 
-  pub read-over : i ≡ length word → 1 ≤ length word → length word ≤ digitsMost → numberOf most word ≡ Value value
-  unfolding numberOf isNumber
+  pub read-over : i ≡ length word → 1 ≤ length word → length word ≤ digitsMost → numberRead most word ≡ Value value
+  unfolding numberRead isNumber
   read-over e l m =
       let digits : all (λ j. isDigit (getD word j 0)) (length word) ≡ true = eq-eqb _ _ (search-over _ _ _ (r .digits) (omega arith) ∙ e) in
       let v : valueOf word (length word) ≡ value = ap (valueOf word) (sym e) ∙ sym (r .soFar) in
@@ -109,27 +109,27 @@ module _ {most : ℕ} {word : List ℕ} {i value : ℕ} (r : Read most word i va
 
 -- ---- words that are too short or too long
 
-pub number-none : (most : ℕ) (word : List ℕ) → length word < 1 → numberOf most word ≡ Bad
-unfolding numberOf isNumber
+pub number-none : (most : ℕ) (word : List ℕ) → length word < 1 → numberRead most word ≡ Bad
+unfolding numberRead isNumber
 number-none most word h = simp (lt-leb 1 (length word) h)
 
-pub number-long : (most : ℕ) (word : List ℕ) → digitsMost < length word → numberOf most word ≡ Bad
-unfolding numberOf isNumber
+pub number-long : (most : ℕ) (word : List ℕ) → digitsMost < length word → numberRead most word ≡ Bad
+unfolding numberRead isNumber
 number-long most word h = simp (lt-leb (length word) digitsMost h, and-false)
 
-pub vote-none : (word : List ℕ) → length word < 1 → voteOf word ≡ Bad
-unfolding voteOf
+pub vote-none : (word : List ℕ) → length word < 1 → voteRead word ≡ Bad
+unfolding voteRead
 vote-none word h = simp (List·getD-eq-default word 0 {n = 0} (omega arith)) (number-none voteMost word h)
 
 -- a vote with a minus sign, as the code reads it: the number after the sign, negated
-pub vote-minus : (word : List ℕ) (n : Number) → getD word 0 0 ≡ minus → n ≡ numberOf minusMost (take (length word - 1) (drop 1 word)) → negatedOf n ≡ voteOf word
-unfolding voteOf
-vote-minus word n e q = rw (eq-eqb (getD word 0 0) minus e) (ap negatedOf (q ∙ ap (numberOf minusMost) (rest-lent 1 word)))
+pub vote-minus : (word : List ℕ) (n : Number) → getD word 0 0 ≡ minus → n ≡ numberRead minusMost (take (length word - 1) (drop 1 word)) → negatedOf n ≡ voteRead word
+unfolding voteRead
+vote-minus word n e q = rw (eq-eqb (getD word 0 0) minus e) (ap negatedOf (q ∙ ap (numberRead minusMost) (rest-lent 1 word)))
 
 -- ---- bounds
 
-pub number-le : (most : ℕ) (word : List ℕ) (v : ℕ) → numberOf most word ≡ Value v → v ≤ most
-unfolding numberOf isNumber
+pub number-le : (most : ℕ) (word : List ℕ) (v : ℕ) → numberRead most word ≡ Value v → v ≤ most
+unfolding numberRead isNumber
 number-le most word v e = go (isNumber most word) refl e
   where
     go : (t : Bool) → isNumber most word ≡ t → cond t (Value (valueOf word (length word))) Bad ≡ Value v → v ≤ most
@@ -139,11 +139,11 @@ number-le most word v e = go (isNumber most word) refl e
     go false q e = absurd (let z : _≡_ {A = ℕ} 0 1 = cc in omega arith)
 
 -- a vote is a byte
-pub vote-lt : (word : List ℕ) (v : ℕ) → voteOf word ≡ Value v → v < 256
-unfolding voteOf
-vote-lt word v e = go (eqb (getD word 0 0) minus) (numberOf minusMost (drop 1 word)) e
+pub vote-lt : (word : List ℕ) (v : ℕ) → voteRead word ≡ Value v → v < 256
+unfolding voteRead
+vote-lt word v e = go (eqb (getD word 0 0) minus) (numberRead minusMost (drop 1 word)) e
   where
-    go : (t : Bool) (n : Number) → cond t (negatedOf n) (numberOf voteMost word) ≡ Value v → v < 256
+    go : (t : Bool) (n : Number) → cond t (negatedOf n) (numberRead voteMost word) ≡ Value v → v < 256
     go true (Value u) e = let h : (256 - u % 256) % 256 ≡ v = cc in omega arith
     go true Bad e = absurd (let z : _≡_ {A = ℕ} 0 1 = cc in omega arith)
     go false n e = omega (arith, number-le voteMost word v e)

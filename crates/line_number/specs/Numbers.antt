@@ -45,18 +45,18 @@ isNumber most word =
     && all (λ i. isDigit (getD word i 0)) (length word)
     && leb (valueOf word (length word)) most
 
-unfoldable pub numberOf : ℕ → List ℕ → Number
-numberOf most word = cond (isNumber most word) (Value (valueOf word (length word))) Bad
+unfoldable pub numberRead : ℕ → List ℕ → Number
+numberRead most word = cond (isNumber most word) (Value (valueOf word (length word))) Bad
 
 -- the value with one digit more, as it is read
 abbrev pub moreOf : ℕ → ℕ → ℕ → Number
 moreOf most v b = cond (isDigit b && leb (v * 10 + (b - digit 0)) most) (Value (v * 10 + (b - digit 0))) Bad
 
-abbrev pub nameOf : List ℕ → Number
-nameOf = numberOf nameMost
+abbrev pub nameRead : List ℕ → Number
+nameRead = numberRead nameMost
 
-abbrev pub shortOf : List ℕ → Number
-shortOf = numberOf shortMost
+abbrev pub shortRead : List ℕ → Number
+shortRead = numberRead shortMost
 
 -- ---- votes
 
@@ -66,5 +66,5 @@ negatedOf (Value v) = Value ((256 - v % 256) % 256)
 negatedOf Bad = Bad
 
 -- from -128 to 127, as its byte; only a vote may have a minus sign, which is none of the digits
-unfoldable pub voteOf : List ℕ → Number
-voteOf word = cond (eqb (getD word 0 0) minus) (negatedOf (numberOf minusMost (drop 1 word))) (numberOf voteMost word)
+unfoldable pub voteRead : List ℕ → Number
+voteRead word = cond (eqb (getD word 0 0) minus) (negatedOf (numberRead minusMost (drop 1 word))) (numberRead voteMost word)

@@ -1,7 +1,7 @@
 // A word as a number or as a vote.
 ghost use mathlib.Core.Path.{_≡_};
 ghost use Prim.Native.Nat.{_≤_};
-ghost use Rattle.line_number.specs.Numbers.{moreOf, numberOf, voteOf};
+ghost use Rattle.line_number.specs.Numbers.{moreOf, numberRead, voteRead};
 
 // What a word is worth, or that it is no such number.
 pub enum Number {
@@ -38,7 +38,7 @@ fn more(value: u64, byte: u8, most: u64) -> Number
 // One to twenty digits, and a value within the limit.
 pub fn read_number(word: &[u8], most: u64) -> Number
     requires { ⌜ 9 ≤ most ⌝ }
-    ensures { λ r. ⌜ r ≡ numberOf most (now (word .entry)) ⌝ }
+    ensures { λ r. ⌜ r ≡ numberRead most (now (word .entry)) ⌝ }
 {
     if word.len() < 1 {
         return Number::Bad;
@@ -58,7 +58,7 @@ pub fn read_number(word: &[u8], most: u64) -> Number
 
 // From -128 to 127, as its byte: two's complement below zero, and -0 is 0.
 pub fn read_vote(word: &[u8]) -> Number
-    ensures { λ r. ⌜ r ≡ voteOf (now (word .entry)) ⌝ }
+    ensures { λ r. ⌜ r ≡ voteRead (now (word .entry)) ⌝ }
 {
     if word.len() < 1 {
         return Number::Bad;

@@ -7,7 +7,7 @@ use Rattle.loops.specs.Turns.{upTo}
 use Rattle.text_bytes.specs.Bytes.{bytes}
 use Rattle.terms.specs.declared.answer.Reading.the-variants.{Query, Accepted, Lead, Confidence, Size}
 use Rattle.line_words.specs.Words.{words, wordEnd, wordsAfter}
-use Rattle.line_number.specs.Numbers.{valueOf, isNumber, numberOf, voteOf}
+use Rattle.line_number.specs.Numbers.{valueOf, isNumber, numberRead, voteRead}
 use Rattle.line_keyword.specs.Keywords.{isSame}
 use Rattle.line_scan.specs.Lists.{leading, manyOf}
 use Rattle.line_parse.specs.declared.command.Command.the-variants.{Open, Book, Poll, Read, List as ListAll, Bad}
@@ -31,7 +31,7 @@ good-lines :
     × (says "confidence 1" ≡ alone (Read Confidence 1))
     × (says "size 1" ≡ alone (Read Size 1))
     × (says "list" ≡ alone ListAll)
-unfolding says lineSays words wordEnd wordsAfter valueOf isNumber numberOf voteOf isSame leading manyOf openSays readSays bookSays pollSays firstFrom upTo
+unfolding says lineSays words wordEnd wordsAfter valueOf isNumber numberRead voteRead isSame leading manyOf openSays readSays bookSays pollSays firstFrom upTo
 good-lines = (refl, refl, refl, refl, refl, refl, refl, refl, refl, refl, refl)
 
 -- the limits of numbers: names, everything else, and twenty digits
@@ -47,7 +47,7 @@ numbers :
     × (says "book 1 65536" ≡ bad)
     × (says "open 65535 0 0 0" ≡ alone (Open (record { k = 65535; a = 0; beta1 = 0; beta2 = 0 })))
     × (says "open 65536 0 0 0" ≡ bad)
-unfolding says lineSays words wordEnd wordsAfter valueOf isNumber numberOf voteOf isSame leading manyOf openSays readSays bookSays pollSays firstFrom upTo
+unfolding says lineSays words wordEnd wordsAfter valueOf isNumber numberRead voteRead isSame leading manyOf openSays readSays bookSays pollSays firstFrom upTo
 numbers = (refl, refl, refl, refl, refl, refl, refl, refl, refl, refl, refl)
 
 -- votes: the number typed is limited, not its byte, and the sign is none of the twenty digits
@@ -60,7 +60,7 @@ votes :
     × (says "poll 2 --1" ≡ bad)
     × (says "poll 2 -00000000000000000001" ≡ record { command = Poll 2 1; parents = []; votes = 255 ∷ [] })
     × (says "poll 2 1 x" ≡ record { command = Bad; parents = []; votes = 1 ∷ [] })
-unfolding says lineSays words wordEnd wordsAfter valueOf isNumber numberOf voteOf isSame leading manyOf openSays readSays bookSays pollSays firstFrom upTo
+unfolding says lineSays words wordEnd wordsAfter valueOf isNumber numberRead voteRead isSame leading manyOf openSays readSays bookSays pollSays firstFrom upTo
 votes = (refl, refl, refl, refl, refl, refl, refl, refl)
 
 -- spaces, letters and the number of words
@@ -81,12 +81,12 @@ other-lines :
     × (says "query 1\r" ≡ bad)
     × (says "book 1" ≡ bad)
     × (says "poll" ≡ bad)
-unfolding says lineSays words wordEnd wordsAfter valueOf isNumber numberOf voteOf isSame leading manyOf openSays readSays bookSays pollSays firstFrom upTo
+unfolding says lineSays words wordEnd wordsAfter valueOf isNumber numberRead voteRead isSame leading manyOf openSays readSays bookSays pollSays firstFrom upTo
 other-lines = (refl, refl, refl, refl, refl, refl, refl, refl, refl, refl, refl, refl, refl, refl, refl, refl)
 
 -- sixteen parents are taken, one more is not
 too-many :
     ((says "book 2 3 1 1 1 1 1 1 1 1 1 1 1 1 1 1 1 1") .command ≡ Book 2 3 16)
     × ((says "book 2 3 1 1 1 1 1 1 1 1 1 1 1 1 1 1 1 1 1") .command ≡ Bad)
-unfolding says lineSays words wordEnd wordsAfter valueOf isNumber numberOf voteOf isSame leading manyOf openSays readSays bookSays pollSays firstFrom upTo
+unfolding says lineSays words wordEnd wordsAfter valueOf isNumber numberRead voteRead isSame leading manyOf openSays readSays bookSays pollSays firstFrom upTo
 too-many = (refl, refl)

@@ -1,6 +1,6 @@
 -- A good line counts the numbers that it wrote: a caller may lend the start of the buffer, as long as the count says, and
 -- lends exactly the parents, or the votes, that the line says.
-use mathlib.Core.Path.{_≡_, refl, sym, ap, _∙_}
+use mathlib.Core.Path.{_≡_, refl, ap, _∙_}
 use mathlib.Core.Bool.{Bool, true, false, cond}
 use mathlib.Core.List.{List, [], _∷_}
 use Prim.Native.Nat.{ℕ, _+_, _≤_}
@@ -22,33 +22,17 @@ use Rattle.line_keyword.specs.declared.Keyword.the-variants.{
   Unknown,
 }
 use Rattle.line_words.specs.Words.{words}
-use Rattle.line_number.specs.Numbers.{nameOf, shortOf, voteOf}
+use Rattle.line_number.specs.Numbers.{nameRead, shortRead, voteRead}
 use Rattle.line_keyword.specs.Keywords.{keywordOf}
 use Rattle.line_scan.specs.Lists.{openMost, parentsMost, votesMost, leading, manyOf}
 use Rattle.line_scan.proofs.Leading.{many-count, leading-length}
 use Rattle.line_parse.specs.declared.command.Command.{Command}
 use Rattle.line_parse.specs.declared.command.Command.the-variants.{Open, Book, Poll, Read, List as ListAll, Bad}
-use Rattle.line_parse.specs.Line.{
-  nothing,
-  Said,
-  alone,
-  settingOf,
-  openWith,
-  openSays,
-  readSays,
-  bookWith,
-  bookSays,
-  pollWith,
-  pollSays,
-  keywordSays,
-  wordsSay,
-  lineSays,
-  Parsed,
-}
+use Rattle.line_parse.specs.Line.{nothing, Said, alone, settingTyped, openWith, openSays, readSays, bookWith, bookSays, pollWith, pollSays, keywordSays, wordsSay, lineSays}
 use Rattle.line_parse.proofs.Whole.{number-holds}
 
 -- the count of a booking is that of its parents, within the limit; likewise a poll's votes
-pub record Counted (s : Said) : Type 0 where
+pub record CountsFit (s : Said) : Type 0 where
   pub books : (name slot n : ℕ) → s .command ≡ Book name slot n → (n ≡ length (s .parents)) × (n ≤ parentsMost)
   pub polls : (name n : ℕ) → s .command ≡ Poll name n → (n ≡ length (s .votes)) × (n ≤ votesMost)
 
@@ -63,7 +47,7 @@ pub data Listless : Command → Type 0 where
   lists : Listless ListAll
   bad : Listless Bad
 
-listless-counted : (c : Command) → Listless c → Counted (alone c)
+listless-counted : (c : Command) → Listless c → CountsFit (alone c)
 listless-counted c (opens s) = record { books = λ name slot n e. absurd (clash (cc)); polls = λ name n e. absurd (clash (cc)) }
 listless-counted c (reads r x) = record { books = λ name slot n e. absurd (clash (cc)); polls = λ name n e. absurd (clash (cc)) }
 listless-counted c lists = record { books = λ name slot n e. absurd (clash (cc)); polls = λ name n e. absurd (clash (cc)) }
@@ -71,14 +55,14 @@ listless-counted c bad = record { books = λ name slot n e. absurd (clash (cc));
 
 open-listless : (ws : List (List ℕ)) → Listless (openSays ws)
 unfolding openSays
-open-listless ws = go (manyOf shortOf openMost ws) (leading shortOf openMost ws)
+open-listless ws = go (manyOf shortRead openMost ws) (leading shortRead openMost ws)
   where
     go : (m : Many) (vs : List ℕ) → Listless (openWith m vs)
     go (Count n) vs = pick (ltb n openMost)
       where
-        pick : (t : Bool) → Listless (cond t Bad (Open (settingOf vs)))
+        pick : (t : Bool) → Listless (cond t Bad (Open (settingTyped vs)))
         pick true = bad
-        pick false = opens (settingOf vs)
+        pick false = opens (settingTyped vs)
     go Refused vs = bad
 
 nothing-listless : (ws : List (List ℕ)) (c : Command) → Listless c → Listless (nothing Bad ws c)
@@ -89,39 +73,39 @@ read-listless : (r : Reading) (ws : List (List ℕ)) → Listless (readSays r ws
 unfolding readSays
 read-listless r = number-holds Listless Bad _ _ bad (λ name ws. nothing-listless ws (Read r name) (reads r name))
 
-book-counted : (ws : List (List ℕ)) → Counted (bookSays ws)
+book-counted : (ws : List (List ℕ)) → CountsFit (bookSays ws)
 unfolding bookSays
 book-counted =
-    number-holds Counted (alone Bad) _ _ (listless-counted Bad bad)
-    (λ name. number-holds Counted (alone Bad) _ _ (listless-counted Bad bad) (λ slot ws. go name slot ws (manyOf nameOf parentsMost ws) refl))
+    number-holds CountsFit (alone Bad) _ _ (listless-counted Bad bad)
+    (λ name. number-holds CountsFit (alone Bad) _ _ (listless-counted Bad bad) (λ slot ws. go name slot ws (manyOf nameRead parentsMost ws) refl))
   where
-    go : (x s : ℕ) (ws : List (List ℕ)) (m : Many) → manyOf nameOf parentsMost ws ≡ m
-        → Counted (record { command = bookWith x s m; parents = leading nameOf parentsMost ws; votes = [] })
+    go : (x s : ℕ) (ws : List (List ℕ)) (m : Many) → manyOf nameRead parentsMost ws ≡ m
+        → CountsFit (record { command = bookWith x s m; parents = leading nameRead parentsMost ws; votes = [] })
     go x s ws (Count k) q =
         record {
           books = λ name slot n e.
               let h : k ≡ n = cc in
-              (omega (arith, many-count nameOf parentsMost ws k q), omega (arith, many-count nameOf parentsMost ws k q, leading-length nameOf parentsMost ws));
+              (omega (arith, many-count nameRead parentsMost ws k q), omega (arith, many-count nameRead parentsMost ws k q, leading-length nameRead parentsMost ws));
           polls = λ name n e. absurd (clash (cc));
         }
     go x s ws Refused q = record { books = λ name slot n e. absurd (clash (cc)); polls = λ name n e. absurd (clash (cc)) }
 
-poll-counted : (ws : List (List ℕ)) → Counted (pollSays ws)
+poll-counted : (ws : List (List ℕ)) → CountsFit (pollSays ws)
 unfolding pollSays
-poll-counted = number-holds Counted (alone Bad) _ _ (listless-counted Bad bad) (λ name ws. go name ws (manyOf voteOf votesMost ws) refl)
+poll-counted = number-holds CountsFit (alone Bad) _ _ (listless-counted Bad bad) (λ name ws. go name ws (manyOf voteRead votesMost ws) refl)
   where
-    go : (x : ℕ) (ws : List (List ℕ)) (m : Many) → manyOf voteOf votesMost ws ≡ m
-        → Counted (record { command = pollWith x m; parents = []; votes = leading voteOf votesMost ws })
+    go : (x : ℕ) (ws : List (List ℕ)) (m : Many) → manyOf voteRead votesMost ws ≡ m
+        → CountsFit (record { command = pollWith x m; parents = []; votes = leading voteRead votesMost ws })
     go x ws (Count k) q =
         record {
           books = λ name slot n e. absurd (clash (cc));
           polls = λ name n e.
               let h : k ≡ n = cc in
-              (omega (arith, many-count voteOf votesMost ws k q), omega (arith, many-count voteOf votesMost ws k q, leading-length voteOf votesMost ws));
+              (omega (arith, many-count voteRead votesMost ws k q), omega (arith, many-count voteRead votesMost ws k q, leading-length voteRead votesMost ws));
         }
     go x ws Refused q = record { books = λ name slot n e. absurd (clash (cc)); polls = λ name n e. absurd (clash (cc)) }
 
-keyword-counted : (k : Keyword) (ws : List (List ℕ)) → Counted (keywordSays k ws)
+keyword-counted : (k : Keyword) (ws : List (List ℕ)) → CountsFit (keywordSays k ws)
 keyword-counted openWord ws = listless-counted (openSays ws) (open-listless ws)
 keyword-counted bookWord ws = book-counted ws
 keyword-counted pollWord ws = poll-counted ws
@@ -129,11 +113,11 @@ keyword-counted (readWord r) ws = listless-counted (readSays r ws) (read-listles
 keyword-counted listWord ws = listless-counted (nothing Bad ws ListAll) (nothing-listless ws ListAll lists)
 keyword-counted Unknown ws = listless-counted Bad bad
 
-pub line-counted : (line : List ℕ) → Counted (lineSays line)
+pub line-counted : (line : List ℕ) → CountsFit (lineSays line)
 unfolding lineSays
 line-counted line = go (words line)
   where
-    go : (ws : List (List ℕ)) → Counted (wordsSay ws)
+    go : (ws : List (List ℕ)) → CountsFit (wordsSay ws)
     go [] = listless-counted Bad bad
     go (w ∷ ws) = keyword-counted (keywordOf w) ws
 
@@ -143,18 +127,3 @@ take-sets buffer vs h = ap (take (length vs)) (sets-eq vs buffer 0 (omega arith)
 
 pub take-stored : (buffer vs : List ℕ) (n : ℕ) → length vs ≡ n → n ≤ length buffer → take n (sets buffer 0 vs) ≡ vs
 take-stored buffer vs n e h = rw (← e) (take-sets buffer vs (omega arith))
-
-module _ {line parents votes : List ℕ} {r : Command} {parents′ votes′ : List ℕ} (p : Parsed line parents votes r parents′ votes′) where
-  pub parsed-parents : (name slot n : ℕ) → r ≡ Book name slot n → length parents ≡ parentsMost → (take n parents′ ≡ (lineSays line) .parents) × (n ≤ parentsMost)
-  parsed-parents name slot n e h =
-      let k = line-counted line .books name slot n (sym (p .answer) ∙ e) in (
-        ap (λ i. take i parents′) (k .0) ∙ ap (take (length ((lineSays line) .parents))) (p .parentsAfter) ∙ take-sets parents ((lineSays line) .parents) (omega (arith, k .0, k .1)),
-        k .1,
-      )
-
-  pub parsed-votes : (name n : ℕ) → r ≡ Poll name n → length votes ≡ votesMost → (take n votes′ ≡ (lineSays line) .votes) × (n ≤ votesMost)
-  parsed-votes name n e h =
-      let k = line-counted line .polls name n (sym (p .answer) ∙ e) in (
-        ap (λ i. take i votes′) (k .0) ∙ ap (take (length ((lineSays line) .votes))) (p .votesAfter) ∙ take-sets votes ((lineSays line) .votes) (omega (arith, k .0, k .1)),
-        k .1,
-      )

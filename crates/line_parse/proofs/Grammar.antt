@@ -11,9 +11,8 @@ use Rattle.line_scan.specs.declared.step.Step.the-variants.{Next, Stop}
 use Rattle.line_words.specs.Words.{wordsAfter}
 use Rattle.line_scan.specs.Steps.{stepOf}
 use Rattle.line_scan.specs.declared.many.Many.{Many}
-use Rattle.line_parse.specs.declared.command.Command.{Command}
 use Rattle.line_parse.specs.declared.command.Command.the-variants.{Bad}
-use Rattle.line_number.specs.Numbers.{nameOf, voteOf}
+use Rattle.line_number.specs.Numbers.{nameRead, voteRead}
 use Rattle.line_scan.specs.Lists.{parentsMost, votesMost, Listed}
 use Rattle.line_parse.specs.Line.{
   number,
@@ -24,8 +23,8 @@ use Rattle.line_parse.specs.Line.{
   bookWords,
   pollWith,
   pollWords,
-  Booked,
-  Polled,
+  BookRead,
+  PollRead,
 }
 use Rattle.line_scan.proofs.Split.{wordsAfter-next, wordsAfter-end}
 use Rattle.line_scan.proofs.Walk.{Stepped, step-none, step-next, step-stop}
@@ -63,15 +62,15 @@ module _ (line : List ℕ) (at : ℕ) {A : Type 0} (bad a : A) where
 -- ---- what the buffers then hold
 
 -- a bad line that read no list leaves its buffer
-pub booked-bad : {said : Said} (parents : List ℕ) → said ≡ alone Bad → Booked said parents Bad parents
+pub booked-bad : {said : Said} (parents : List ℕ) → said ≡ alone Bad → BookRead said parents Bad parents
 booked-bad parents e = record { answer = sym (ap (λ s. s .command) e); after = sym (ap (λ s. sets parents 0 (s .parents)) e) }
 
-pub polled-bad : {said : Said} (votes : List ℕ) → said ≡ alone Bad → Polled said votes Bad votes
+pub polled-bad : {said : Said} (votes : List ℕ) → said ≡ alone Bad → PollRead said votes Bad votes
 polled-bad votes e = record { answer = sym (ap (λ s. s .command) e); after = sym (ap (λ s. sets votes 0 (s .votes)) e) }
 
 -- a list that was read is the command's, whether or not it made a good line
 pub booked-listed : {said : Said} {parents parents′ : List ℕ} {many : Many} (name slot : ℕ) (ws : List (List ℕ)) (m : Many)
-    → said ≡ bookWords name slot ws → Listed nameOf parentsMost ws parents many parents′ → many ≡ m → Booked said parents (bookWith name slot m) parents′
+    → said ≡ bookWords name slot ws → Listed nameRead parentsMost ws parents many parents′ → many ≡ m → BookRead said parents (bookWith name slot m) parents′
 booked-listed {said} {parents} name slot ws m e l q =
     record {
       answer = ap (bookWith name slot) (sym q ∙ l .many) ∙ sym (ap (λ s. s .command) e);
@@ -79,7 +78,7 @@ booked-listed {said} {parents} name slot ws m e l q =
     }
 
 pub polled-listed : {said : Said} {votes votes′ : List ℕ} {many : Many} (name : ℕ) (ws : List (List ℕ)) (m : Many)
-    → said ≡ pollWords name ws → Listed voteOf votesMost ws votes many votes′ → many ≡ m → Polled said votes (pollWith name m) votes′
+    → said ≡ pollWords name ws → Listed voteRead votesMost ws votes many votes′ → many ≡ m → PollRead said votes (pollWith name m) votes′
 polled-listed {said} {votes} name ws m e l q =
     record {
       answer = ap (pollWith name) (sym q ∙ l .many) ∙ sym (ap (λ s. s .command) e);

@@ -11,7 +11,7 @@ use Rattle.line_parse.specs.declared.command.Command.the-variants.{Bad}
 use Rattle.line_keyword.specs.declared.Keyword.{Keyword}
 use Rattle.line_words.specs.Words.{wordEnd, wordsAfter}
 use Rattle.line_keyword.specs.Keywords.{keywordOf}
-use Rattle.line_parse.specs.Line.{valued, number, alone, bookSays, pollSays, keywordSays, wordsSay, lineSays, Booked, Polled, Parsed}
+use Rattle.line_parse.specs.Line.{valued, number, alone, bookSays, pollSays, keywordSays, wordsSay, lineSays, BookRead, PollRead, Parsed}
 use Rattle.line_scan.proofs.Split.{words-first}
 
 pub line-says : (line : List ℕ) (end : ℕ) (k : Keyword) → end ≡ wordEnd line → k ≡ keywordOf (take end line) → lineSays line ≡ keywordSays k (wordsAfter line end)
@@ -51,7 +51,7 @@ module _ {line : List ℕ} (parents votes : List ℕ) {r : Command} where
         votesAfter = sym (ap (λ s. sets votes 0 (s .votes)) e);
       }
 
-  pub parsed-booked : {parents′ : List ℕ} (ws : List (List ℕ)) → lineSays line ≡ bookSays ws → Booked (bookSays ws) parents r parents′ → Parsed line parents votes r parents′ votes
+  pub parsed-booked : {parents′ : List ℕ} (ws : List (List ℕ)) → lineSays line ≡ bookSays ws → BookRead (bookSays ws) parents r parents′ → Parsed line parents votes r parents′ votes
   parsed-booked ws e b =
       record {
         answer = b .answer ∙ sym (ap (λ s. s .command) e);
@@ -59,7 +59,7 @@ module _ {line : List ℕ} (parents votes : List ℕ) {r : Command} where
         votesAfter = sym (ap (λ s. sets votes 0 (s .votes)) e ∙ ap (sets votes 0) (book-votes ws));
       }
 
-  pub parsed-polled : {votes′ : List ℕ} (ws : List (List ℕ)) → lineSays line ≡ pollSays ws → Polled (pollSays ws) votes r votes′ → Parsed line parents votes r parents votes′
+  pub parsed-polled : {votes′ : List ℕ} (ws : List (List ℕ)) → lineSays line ≡ pollSays ws → PollRead (pollSays ws) votes r votes′ → Parsed line parents votes r parents votes′
   parsed-polled ws e p =
       record {
         answer = p .answer ∙ sym (ap (λ s. s .command) e);

@@ -7,6 +7,7 @@ use lib.ListN.{getD}
 use lib.Seq.{sets}
 use lib.Dec.{ltb}
 use Rattle.terms.specs.declared.setting.Setting.{Setting}
+use Rattle.terms.specs.Setting.{settingOf}
 use Rattle.line_number.specs.declared.Number.{Number}
 use Rattle.line_number.specs.declared.Number.the-variants.{Value, Bad as NoNumber}
 use Rattle.line_scan.specs.declared.many.Many.{Many}
@@ -24,7 +25,7 @@ use Rattle.line_keyword.specs.declared.Keyword.the-variants.{
   Unknown,
 }
 use Rattle.line_words.specs.Words.{words}
-use Rattle.line_number.specs.Numbers.{shortMost, nameOf, shortOf, voteOf}
+use Rattle.line_number.specs.Numbers.{shortMost, nameRead, shortRead, voteRead}
 use Rattle.line_keyword.specs.Keywords.{keywordOf}
 use Rattle.line_scan.specs.Lists.{openMost, parentsMost, votesMost, leading, manyOf}
 
@@ -56,8 +57,8 @@ abbrev pub alone : Command → Said
 alone c = record { command = c; parents = []; votes = [] }
 
 -- k a β1 β2
-abbrev pub settingOf : List ℕ → Setting
-settingOf vs = record { k = getD vs 0 0; a = getD vs 1 0; beta1 = getD vs 2 0; beta2 = getD vs 3 0 }
+abbrev pub settingTyped : List ℕ → Setting
+settingTyped vs = settingOf (getD vs 0 0) (getD vs 1 0) (getD vs 2 0) (getD vs 3 0)
 
 -- every number of a list is short
 abbrev pub AllShort : List ℕ → Type 0
@@ -65,15 +66,15 @@ AllShort vs = (i : ℕ) → getD vs i 0 ≤ shortMost
 
 -- four of them, no fewer and no more
 abbrev pub openWith : Many → List ℕ → Command
-openWith (Count n) vs = cond (ltb n openMost) Bad (Open (settingOf vs))
+openWith (Count n) vs = cond (ltb n openMost) Bad (Open (settingTyped vs))
 openWith Refused vs = Bad
 
 unfoldable pub openSays : List (List ℕ) → Command
-openSays ws = openWith (manyOf shortOf openMost ws) (leading shortOf openMost ws)
+openSays ws = openWith (manyOf shortRead openMost ws) (leading shortRead openMost ws)
 
 -- a name
 unfoldable pub readSays : Reading → List (List ℕ) → Command
-readSays reading ws = number Bad nameOf ws (λ name ws. nothing Bad ws (Read reading name))
+readSays reading ws = number Bad nameRead ws (λ name ws. nothing Bad ws (Read reading name))
 
 abbrev pub bookWith : ℕ → ℕ → Many → Command
 bookWith name slot (Count n) = Book name slot n
@@ -81,11 +82,11 @@ bookWith name slot Refused = Bad
 
 abbrev pub bookWords : ℕ → ℕ → List (List ℕ) → Said
 bookWords name slot ws =
-    record { command = bookWith name slot (manyOf nameOf parentsMost ws); parents = leading nameOf parentsMost ws; votes = [] }
+    record { command = bookWith name slot (manyOf nameRead parentsMost ws); parents = leading nameRead parentsMost ws; votes = [] }
 
 -- name slot parents
 unfoldable pub bookSays : List (List ℕ) → Said
-bookSays ws = number (alone Bad) nameOf ws (λ name ws. number (alone Bad) shortOf ws (λ slot ws. bookWords name slot ws))
+bookSays ws = number (alone Bad) nameRead ws (λ name ws. number (alone Bad) shortRead ws (λ slot ws. bookWords name slot ws))
 
 abbrev pub pollWith : ℕ → Many → Command
 pollWith name (Count n) = Poll name n
@@ -93,11 +94,11 @@ pollWith name Refused = Bad
 
 abbrev pub pollWords : ℕ → List (List ℕ) → Said
 pollWords name ws =
-    record { command = pollWith name (manyOf voteOf votesMost ws); parents = []; votes = leading voteOf votesMost ws }
+    record { command = pollWith name (manyOf voteRead votesMost ws); parents = []; votes = leading voteRead votesMost ws }
 
 -- name votes
 unfoldable pub pollSays : List (List ℕ) → Said
-pollSays ws = number (alone Bad) nameOf ws (λ name ws. pollWords name ws)
+pollSays ws = number (alone Bad) nameRead ws (λ name ws. pollWords name ws)
 
 -- ---- the line
 
@@ -118,11 +119,11 @@ lineSays line = wordsSay (words line)
 
 -- ---- what reading a line leaves: the command, and its numbers at the start of the buffers; the rest of each buffer stays
 
-pub record Booked (said : Said) (parents : List ℕ) (r : Command) (parents′ : List ℕ) : Type 0 where
+pub record BookRead (said : Said) (parents : List ℕ) (r : Command) (parents′ : List ℕ) : Type 0 where
   pub answer : r ≡ said .command
   pub after : parents′ ≡ sets parents 0 (said .parents)
 
-pub record Polled (said : Said) (votes : List ℕ) (r : Command) (votes′ : List ℕ) : Type 0 where
+pub record PollRead (said : Said) (votes : List ℕ) (r : Command) (votes′ : List ℕ) : Type 0 where
   pub answer : r ≡ said .command
   pub after : votes′ ≡ sets votes 0 (said .votes)
 

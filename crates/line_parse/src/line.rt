@@ -14,14 +14,14 @@ ghost use Rattle.line_words.specs.Words.{wordsAfter};
 ghost use Rattle.line_scan.specs.Lists.{parentsMost, votesMost};
 ghost use Rattle.line_parse.specs.Line.{
   AllShort,
-  Booked,
-  Polled,
+  BookRead,
+  PollRead,
   bookSays,
   nothing,
   openSays,
   pollSays,
   readSays,
-  settingOf,
+  settingTyped,
 };
 
 // The largest name.
@@ -33,7 +33,7 @@ const SHORT_MOST: u64 = 65535;
 // Four short numbers as a setting.
 fn setting_of(four: &[u64; 4]) -> Setting
     requires { ⌜ AllShort (now four) ⌝ }
-    ensures { λ r. ⌜ r ≡ settingOf (now (four .entry)) ⌝ }
+    ensures { λ r. ⌜ r ≡ settingTyped (now (four .entry)) ⌝ }
 {
     Setting {
         k: four[0] as u16,
@@ -74,7 +74,7 @@ pub(crate) fn read_reading(line: &[u8], at: usize, reading: Reading) -> Command
 // A name, a slot and the parents.
 pub(crate) fn read_book(line: &[u8], at: usize, parents: &mut [u64]) -> Command
     requires { ⌜ length (now parents) ≡ parentsMost ⌝ }
-    ensures { λ r. ⌜ Booked (bookSays (wordsAfter (now (line .entry)) at)) (now (parents .entry)) r (now (parents .exit)) ⌝ }
+    ensures { λ r. ⌜ BookRead (bookSays (wordsAfter (now (line .entry)) at)) (now (parents .entry)) r (now (parents .exit)) ⌝ }
 {
     let Step::Next(name, after_name) = next_number(line, at, NAME_MOST) else {
         return Command::Bad;
@@ -92,7 +92,7 @@ pub(crate) fn read_book(line: &[u8], at: usize, parents: &mut [u64]) -> Command
 // A name and the votes.
 pub(crate) fn read_poll(line: &[u8], at: usize, votes: &mut [u8]) -> Command
     requires { ⌜ length (now votes) ≡ votesMost ⌝ }
-    ensures { λ r. ⌜ Polled (pollSays (wordsAfter (now (line .entry)) at)) (now (votes .entry)) r (now (votes .exit)) ⌝ }
+    ensures { λ r. ⌜ PollRead (pollSays (wordsAfter (now (line .entry)) at)) (now (votes .entry)) r (now (votes .exit)) ⌝ }
 {
     let Step::Next(name, end) = next_number(line, at, NAME_MOST) else {
         return Command::Bad;

@@ -16,7 +16,7 @@ use Rattle.line_scan.specs.declared.many.Many.{Many}
 use Rattle.line_scan.specs.declared.many.Many.the-variants.{Count, Refused}
 use Rattle.line_scan.specs.declared.step.Step.the-variants.{Next, Stop}
 use Rattle.line_words.specs.Words.{wordsAfter}
-use Rattle.line_number.specs.Numbers.{numberOf}
+use Rattle.line_number.specs.Numbers.{numberRead}
 use Rattle.line_scan.specs.Steps.{stepOf}
 use Rattle.line_scan.specs.Lists.{ahead, leading, isList, manyOf, Listed}
 use Rattle.line_number.proofs.Digits.{number-le}
@@ -138,13 +138,13 @@ many-count reader most ws n e = go (isList reader most ws) refl e
     go false q e = absurd (let z : _≡_ {A = ℕ} 0 1 = cc in omega arith)
 
 -- each within the limit of a number
-pub leading-le : (limit most : ℕ) (ws : List (List ℕ)) (i : ℕ) → getD (leading (numberOf limit) most ws) i 0 ≤ limit
+pub leading-le : (limit most : ℕ) (ws : List (List ℕ)) (i : ℕ) → getD (leading (numberRead limit) most ws) i 0 ≤ limit
 unfolding leading
 leading-le limit zero ws i = omega arith
 leading-le limit (suc most) [] i = omega arith
-leading-le limit (suc most) (w ∷ ws) i = go (numberOf limit w) refl i (leading-le limit most ws)
+leading-le limit (suc most) (w ∷ ws) i = go (numberRead limit w) refl i (leading-le limit most ws)
   where
-    go : (n : Number) → numberOf limit w ≡ n → (i : ℕ) → ((j : ℕ) → getD (leading (numberOf limit) most ws) j 0 ≤ limit) → getD (ahead n (leading (numberOf limit) most ws)) i 0 ≤ limit
+    go : (n : Number) → numberRead limit w ≡ n → (i : ℕ) → ((j : ℕ) → getD (leading (numberRead limit) most ws) j 0 ≤ limit) → getD (ahead n (leading (numberRead limit) most ws)) i 0 ≤ limit
     go (Value v) e zero rest = number-le limit w v e
     go (Value v) e (suc i) rest = rest i
     go Bad e i rest = omega arith

@@ -7,7 +7,6 @@ use lib.ListN.{length, take, drop}
 use borrow.Author.Tests.{lt-ltb, le-ltb}
 use Rattle.line_number.specs.declared.Number.{Number}
 use Rattle.line_number.specs.declared.Number.the-variants.{Value, Bad}
-use Rattle.line_scan.specs.declared.step.Step.{Step}
 use Rattle.line_scan.specs.declared.step.Step.the-variants.{Next, Stop}
 use Rattle.line_words.specs.Words.{wordEnd, wordsAfter}
 use Rattle.line_scan.specs.Steps.{wordAfter, endAfter, stepBy, stepOf}

@@ -6,7 +6,7 @@ use line_words::word_end;
 ghost use mathlib.Core.Path.{_≡_};
 ghost use Prim.Native.Nat.{_≤_, _<_};
 ghost use lib.ListN.{length};
-ghost use Rattle.line_number.specs.Numbers.{numberOf, voteOf};
+ghost use Rattle.line_number.specs.Numbers.{numberRead, voteRead};
 ghost use Rattle.line_scan.specs.Steps.{endAfter, stepOf};
 
 // The value of the next word and where it ends, or that there is no word or that it is no number.
@@ -27,7 +27,7 @@ fn end_after(line: &[u8], at: usize) -> usize
 // The next word as a number within the limit.
 pub fn next_number(line: &[u8], at: usize, most: u64) -> Step
     requires { ⌜ 9 ≤ most ⌝ }
-    ensures { λ r. ⌜ r ≡ stepOf (numberOf most) (now (line .entry)) at ⌝ }
+    ensures { λ r. ⌜ r ≡ stepOf (numberRead most) (now (line .entry)) at ⌝ }
 {
     if line.len() <= at {
         return Step::Stop;
@@ -42,7 +42,7 @@ pub fn next_number(line: &[u8], at: usize, most: u64) -> Step
 
 // The next word as a vote.
 pub(crate) fn next_vote(line: &[u8], at: usize) -> Step
-    ensures { λ r. ⌜ r ≡ stepOf voteOf (now (line .entry)) at ⌝ }
+    ensures { λ r. ⌜ r ≡ stepOf voteRead (now (line .entry)) at ⌝ }
 {
     if line.len() <= at {
         return Step::Stop;

@@ -9,7 +9,7 @@ use Rattle.terms.specs.declared.setting.Setting.{Setting}
 use Rattle.terms.specs.declared.answer.Refusal.the-variants.{NotSound, BadSetting}
 use Rattle.terms.specs.declared.answer.Answer.{Answer}
 use Rattle.terms.specs.declared.answer.Answer.the-variants.{Refused}
-use Rattle.terms.specs.Answers.{Outcome, outcome, leaves, done}
+use Rattle.terms.specs.Answers.{outcome, leaves, done}
 use Rattle.rules.specs.Layout.{size}
 use Rattle.terms.specs.Setting.{isGood}
 use Rattle.rules.specs.IsSound.{isSound, headerGood}

@@ -1,8 +1,8 @@
 -- A contract met: a call's words and answer, printed, are the effect of its command; and a line has the effect of what it says.
 use mathlib.Core.Path.{_≡_, refl, sym, ap, subst, _∙_}
-use mathlib.Core.Bool.{Bool, true, false}
+use mathlib.Core.Bool.{false}
 use mathlib.Core.List.{List}
-use Prim.Native.Nat.{ℕ, _+_, _≤_}
+use Prim.Native.Nat.{ℕ, _≤_}
 use native.Mathlib.Omega.{arith}
 use lib.ListN.{length, take}
 use lib.Seq.{sets, length-sets}
@@ -22,7 +22,7 @@ use Rattle.text_print.specs.Print.{callPrints, readingPrints}
 use Rattle.line_parse.specs.declared.command.Command.{Command}
 use Rattle.line_parse.specs.Line.{lineSays}
 use Rattle.line_parse.proofs.Counts.{take-stored}
-use Rattle.text_listing.specs.Listed.{listPrints, lineMost}
+use Rattle.text_listing.specs.Listed.{listPrints}
 use Rattle.text_listing.proofs.Rows.{list-length}
 use Rattle.line_serve.specs.declared.Served.{Served}
 use Rattle.line_serve.specs.Serve.{Effect, called, asked, listShows, listed, commandDoes, served, Serves}

@@ -1,10 +1,9 @@
 -- No line prints more than the longest listing.
-use mathlib.Core.Path.{_≡_, refl, sym, ap, subst, _∙_}
-use mathlib.Core.Bool.{Bool, true, false}
-use mathlib.Core.List.{List, [], _∷_, _++_}
-use Prim.Native.Nat.{ℕ, _+_, _^_, _<_, _≤_}
+use mathlib.Core.Path.{_≡_, refl, sym, subst}
+use mathlib.Core.List.{List}
+use Prim.Native.Nat.{ℕ, _≤_}
 use native.Mathlib.Omega.{arith}
-use lib.IntN.{ℤ, pos, natAbs}
+use lib.IntN.{ℤ, natAbs}
 use lib.ListN.{length, length-append}
 use Rattle.terms.specs.declared.answer.Refusal.{Refusal}
 use Rattle.terms.specs.declared.answer.Answer.{Answer}
@@ -14,9 +13,8 @@ use Rattle.terms.specs.declared.answer.Reading.the-variants.{Query, Accepted, L
 use Rattle.terms.specs.Answers.{refusalNumber, number, value}
 use Rattle.rules.specs.Calls.{readCall}
 use Rattle.rule_laws.proofs.Calls.{refusalNumber-within}
-use Rattle.text_bytes.specs.Bytes.{lineFeed}
-use Rattle.text_put.specs.Decimal.{decimal, sign, signed}
-use Rattle.text_print.specs.Print.{refusedText, refusalPrints, readingPrints, callPrints, answerMost}
+use Rattle.text_put.specs.Decimal.{signed}
+use Rattle.text_print.specs.Print.{refusalPrints, readingPrints, callPrints, answerMost}
 use Rattle.text_put.proofs.Decimals.{decimal-length}
 use Rattle.text_put.proofs.Signs.{sign-length}
 use Rattle.promises.specs.Ranges.{Between}

@@ -12,10 +12,6 @@ module _ {ℓ} {A : Type ℓ} (step : ℕ → A → A) where
   unfolding upTo
   upTo-zero a = refl
 
-  pub upTo-suc : (j : ℕ) (a : A) → upTo step (suc j) a ≡ step j (upTo step j a)
-  unfolding upTo
-  upTo-suc j a = refl
-
   -- one turn more, as a loop that counts has it
   pub upTo-more : (j : ℕ) (a : A) → upTo step (j + 1) a ≡ step j (upTo step j a)
   unfolding upTo

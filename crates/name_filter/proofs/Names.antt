@@ -14,22 +14,22 @@ use Rattle.loops.proofs.Search.{any→}
 use Rattle.loops.proofs.Turns.{upTo-zero, upTo-more, upTo-kept, upTo-since}
 use Rattle.rules.specs.Layout.{nameOf}
 use Rattle.rules.specs.IsSound.{nameNew}
-use Rattle.name_filter.specs.Names.{filterWords, firstBit, secondBit, isNoted, noted, namesBelow}
+use Rattle.name_filter.specs.Names.{filterWords, firstBit, secondBit, isNoted, withNoted, namesBelow}
 
-pub noted-length : (name : ℕ) (f : List ℕ) → length (noted name f) ≡ length f
+pub noted-length : (name : ℕ) (f : List ℕ) → length (withNoted name f) ≡ length f
 noted-length name f = withBit-length (secondBit name) (withBit (firstBit name) f) ∙ withBit-length (firstBit name) f
 
 pub namesBelow-length : (w : List ℕ) (i : ℕ) → length (namesBelow w i) ≡ filterWords
 unfolding namesBelow
 namesBelow-length w i =
-    upTo-kept (λ j. noted (nameOf w j)) (λ f. length f ≡ filterWords) i (λ j l f e. noted-length (nameOf w j) f ∙ e) (replicate filterWords 0) (length-replicate {A = ℕ} filterWords 0)
+    upTo-kept (λ j. withNoted (nameOf w j)) (λ f. length f ≡ filterWords) i (λ j l f e. noted-length (nameOf w j) f ∙ e) (replicate filterWords 0) (length-replicate {A = ℕ} filterWords 0)
 
 -- the turns of the loop that notes
 pub namesBelow-zero : (w : List ℕ) → namesBelow w 0 ≡ replicate filterWords 0
 unfolding namesBelow
 namesBelow-zero w = upTo-zero _ _
 
-pub namesBelow-more : (w : List ℕ) (i : ℕ) → namesBelow w (i + 1) ≡ noted (nameOf w i) (namesBelow w i)
+pub namesBelow-more : (w : List ℕ) (i : ℕ) → namesBelow w (i + 1) ≡ withNoted (nameOf w i) (namesBelow w i)
 unfolding namesBelow
 namesBelow-more w i = upTo-more _ i _
 
@@ -47,7 +47,7 @@ withBit-has name q f h =
       second = bitAt-withBit-kept f q (secondBit name) (omega (arith, h .whole)) (h .second);
     }
 
-noted-has : (name : ℕ) (f : List ℕ) → length f ≡ filterWords → Has name (noted name f)
+noted-has : (name : ℕ) (f : List ℕ) → length f ≡ filterWords → Has name (withNoted name f)
 noted-has name f e =
     let g : length (withBit (firstBit name) f) ≡ filterWords = withBit-length (firstBit name) f ∙ e in
     record {
@@ -60,7 +60,7 @@ noted-has name f e =
 namesBelow-has : (w : List ℕ) (i j : ℕ) → j < i → Has (nameOf w j) (namesBelow w i)
 unfolding namesBelow
 namesBelow-has w i j l =
-    upTo-since (λ k. noted (nameOf w k)) (Has (nameOf w j)) i j l (replicate filterWords 0) (noted-has (nameOf w j) _ (namesBelow-length w j)) (λ k u v f h. withBit-has (nameOf w j) _ _ (withBit-has (nameOf w j) _ f h))
+    upTo-since (λ k. withNoted (nameOf w k)) (Has (nameOf w j)) i j l (replicate filterWords 0) (noted-has (nameOf w j) _ (namesBelow-length w j)) (λ k u v f h. withBit-has (nameOf w j) _ _ (withBit-has (nameOf w j) _ f h))
 
 -- so a name that is not noted is new
 pub isNoted-new : (w : List ℕ) (i : ℕ) → isNoted (namesBelow w i) (nameOf w i) ≡ false → nameNew w i ≡ true

@@ -23,9 +23,9 @@ abbrev pub isNoted : List ℕ → ℕ → Bool
 isNoted f name = bitAt f (firstBit name) && bitAt f (secondBit name)
 
 -- the filter with both bits of the name set
-abbrev pub noted : ℕ → List ℕ → List ℕ
-noted name f = withBit (secondBit name) (withBit (firstBit name) f)
+abbrev pub withNoted : ℕ → List ℕ → List ℕ
+withNoted name f = withBit (secondBit name) (withBit (firstBit name) f)
 
 -- the names of the records below i
 unfoldable pub namesBelow : List ℕ → ℕ → List ℕ
-namesBelow w i = upTo (λ j. noted (nameOf w j)) i (replicate filterWords 0)
+namesBelow w i = upTo (λ j. withNoted (nameOf w j)) i (replicate filterWords 0)

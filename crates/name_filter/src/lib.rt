@@ -4,7 +4,7 @@ ghost use Prim.Native.Nat.{_<_};
 ghost use lib.ListN.{length};
 ghost use Rattle.rules.specs.Layout.{size, mostBookings, nameOf};
 ghost use Rattle.rules.specs.IsSound.{nameNew};
-ghost use Rattle.name_filter.specs.Names.{firstBit, secondBit, noted, namesBelow};
+ghost use Rattle.name_filter.specs.Names.{firstBit, secondBit, withNoted, namesBelow};
 
 // How many words a filter has.
 pub const FILTER_WORDS: usize = 124;
@@ -42,7 +42,7 @@ fn look_back(w: &[u16], i: usize, name: u64) -> bool
 // Notes the name of record i in the filter, which has those of the lower records, and tells whether none of them has it.
 pub fn enter(w: &[u16], i: usize, filter: &mut [u64]) -> bool
     requires { ⌜ (length (now w) ≡ size) × (i < mostBookings) × (now filter ≡ namesBelow (now w) i) ⌝ }
-    ensures { λ r. ⌜ (r ≡ nameNew (now (w .entry)) i) × (now (filter .exit) ≡ noted (nameOf (now (w .entry)) i) (now (filter .entry))) ⌝ }
+    ensures { λ r. ⌜ (r ≡ nameNew (now (w .entry)) i) × (now (filter .exit) ≡ withNoted (nameOf (now (w .entry)) i) (now (filter .entry))) ⌝ }
 {
     let name = words::name(w, i);
     let a = first_bit(name);

@@ -17,25 +17,25 @@ use Rattle.promises.proofs.Polled.{polled-ledger, polled-grown}
 use Rattle.promises.proofs.Grown.{grown-self, ancestry-grown, reaches-grown}
 
 -- u is a ledger that has grown from w
-record Kept (w u : List ℕ) : Type 0 where
+record Continues (w u : List ℕ) : Type 0 where
   ledger : Ledger u
   grown : Grown w u
 
-kept-words : {w v u : List ℕ} → u ≡ v → Kept w v → Kept w u
-kept-words {w = w} e k = subst (Kept w) (sym e) k
+kept-words : {w v u : List ℕ} → u ≡ v → Continues w v → Continues w u
+kept-words {w = w} e k = subst (Continues w) (sym e) k
 
-kept-self : (w : List ℕ) → Ledger w → Kept w w
+kept-self : (w : List ℕ) → Ledger w → Continues w w
 kept-self w l = record { ledger = l; grown = grown-self w }
 
 kept-book : (w : List ℕ) (name slot : ℕ) (parents : List ℕ) (taken : Bool) → isTaken (bookCall w name slot parents .answer) ≡ taken
-    → Ledger w → Kept w (bookCall w name slot parents .words)
+    → Ledger w → Continues w (bookCall w name slot parents .words)
 kept-book w name slot parents true t l =
     let o = book-taken w name slot parents t in
     kept-words (o .2) (record { ledger = booked-ledger w name slot parents l (o .1); grown = booked-grown w name slot parents l (o .1) })
 kept-book w name slot parents false t l = kept-words (book-kept w name slot parents t) (kept-self w l)
 
 kept-poll : (w : List ℕ) (name : ℕ) (votes : List ℕ) (taken : Bool) → isTaken (pollCall w name votes .answer) ≡ taken
-    → Ledger w → Kept w (pollCall w name votes .words)
+    → Ledger w → Continues w (pollCall w name votes .words)
 kept-poll w name votes true t l =
     let o = poll-taken w name votes t in
     let i = numberOf (lookUp w name) in
@@ -43,7 +43,7 @@ kept-poll w name votes true t l =
 kept-poll w name votes false t l = kept-words (poll-kept w name votes t) (kept-self w l)
 
 -- every call but an opening
-call-kept : (c : Call) (w : List ℕ) → opens c ≡ false → Ledger w → Kept w (outcomeOf c w .words)
+call-kept : (c : Call) (w : List ℕ) → opens c ≡ false → Ledger w → Continues w (outcomeOf c w .words)
 unfolding outcomeOf
 call-kept (Open s) w n l = absurd (true≢false n)
 call-kept (Book name slot parents) w n l = kept-book w name slot parents (isTaken (bookCall w name slot parents .answer)) refl l

@@ -13,7 +13,7 @@ use Rattle.terms.specs.Answers.{number, value}
 use Rattle.rules.specs.Layout.{bookings, confidenceOf}
 use Rattle.rules.specs.Readings.{queryOf, acceptedOf, leadOf, sizeOf}
 use Rattle.rules.specs.Book.{lookUp, numberOf}
-use Rattle.rules.specs.Calls.{readingCall, queryCall, acceptedCall, leadCall, confidenceCall, sizeCall}
+use Rattle.rules.specs.Calls.{readingCall}
 use Rattle.rules.specs.Sound.{Ledger}
 use Rattle.rule_laws.proofs.Calls.{refusalNumber-within, number-refused, value-refused}
 use Rattle.rule_laws.proofs.Lookup.{found-below}

@@ -13,7 +13,6 @@ use borrow.Author.Tests.{eqb-true, eq-eqb, leb-true, le-leb, ltb-true, lt-ltb, n
 use Rattle.loops.specs.Search.{any}
 use Rattle.loops.proofs.Search.{any→, →any}
 use Rattle.terms.specs.declared.setting.Setting.{Setting}
-use Rattle.terms.specs.declared.answer.Reading.{Reading}
 use Rattle.terms.specs.declared.answer.Found.{Found}
 use Rattle.terms.specs.declared.answer.Found.the-variants.{At, Absent}
 use Rattle.terms.specs.declared.answer.Refusal.{Refusal}
@@ -78,83 +77,83 @@ refused-keeps (Ask what name) w h = (refl, value-refused (readCall what w name) 
 
 -- ---- a test that tells whether a case applies
 
-record Tells (t : Bool) (applies : Type 0) : Type 0 where
+record Decides (t : Bool) (applies : Type 0) : Type 0 where
   passes : t ≡ true → applies
   fails : t ≡ false → applies → ⊥
 
 -- by a law for each direction, and such a law from it
-tells-by : {t : Bool} {applies : Type 0} → (t ≡ true → applies) → (applies → t ≡ true) → Tells t applies
-tells-by to from = record { passes = to; fails = λ e a. true≢false (sym (from a) ∙ e) }
+decides-by : {t : Bool} {applies : Type 0} → (t ≡ true → applies) → (applies → t ≡ true) → Decides t applies
+decides-by to from = record { passes = to; fails = λ e a. true≢false (sym (from a) ∙ e) }
 
-told : (t : Bool) {applies : Type 0} → Tells t applies → applies → t ≡ true
+told : (t : Bool) {applies : Type 0} → Decides t applies → applies → t ≡ true
 told true tells a = refl
 told false tells a = absurd (tells .fails refl a)
 
-not-tells : (t : Bool) {applies : Type 0} → Tells t applies → Tells (not t) (applies → ⊥)
-not-tells t tells = record { passes = λ e. tells .fails (not-true t e); fails = λ e d. d (tells .passes (not-false t e)) }
+not-decides : (t : Bool) {applies : Type 0} → Decides t applies → Decides (not t) (applies → ⊥)
+not-decides t tells = record { passes = λ e. tells .fails (not-true t e); fails = λ e d. d (tells .passes (not-false t e)) }
 
-either-tells : (s t : Bool) {one other : Type 0} → Tells s one → Tells t other → Tells (s || t) (one ⊎ other)
-either-tells true t tells also = record { passes = λ e. inl (tells .passes refl); fails = λ e. absurd (true≢false e) }
-either-tells false t tells also = record { passes = λ e. inr (also .passes e); fails = λ e. ⊎-elim (tells .fails refl) (also .fails e) }
+either-decides : (s t : Bool) {one other : Type 0} → Decides s one → Decides t other → Decides (s || t) (one ⊎ other)
+either-decides true t tells also = record { passes = λ e. inl (tells .passes refl); fails = λ e. absurd (true≢false e) }
+either-decides false t tells also = record { passes = λ e. inr (also .passes e); fails = λ e. ⊎-elim (tells .fails refl) (also .fails e) }
 
 -- a case of some number below n, given what it says of the number
-any-tells : (p : ℕ → Bool) (n : ℕ) {applies : Type 0} → ((i : ℕ) → i < n → p i ≡ true → applies) → (applies → (i : ℕ) × (i < n) × (p i ≡ true))
-    → Tells (any p n) applies
-any-tells p n to from = tells-by
+any-decides : (p : ℕ → Bool) (n : ℕ) {applies : Type 0} → ((i : ℕ) → i < n → p i ≡ true → applies) → (applies → (i : ℕ) × (i < n) × (p i ≡ true))
+    → Decides (any p n) applies
+any-decides p n to from = decides-by
     (λ e. let found = any→ p n e in to (found .0) (found .1) (found .2))
     (λ a. let found = from a in →any p n (found .0) (found .1) (found .2))
 
-equal-tells : (a b : ℕ) → Tells (eqb a b) (a ≡ b)
-equal-tells a b = tells-by (eqb-true a b) (eq-eqb a b)
+equal-decides : (a b : ℕ) → Decides (eqb a b) (a ≡ b)
+equal-decides a b = decides-by (eqb-true a b) (eq-eqb a b)
 
-most-tells : (a b : ℕ) → Tells (leb a b) (a ≤ b)
-most-tells a b = tells-by (leb-true a b) (le-leb a b)
+most-decides : (a b : ℕ) → Decides (leb a b) (a ≤ b)
+most-decides a b = decides-by (leb-true a b) (le-leb a b)
 
-less-tells : (a b : ℕ) → Tells (ltb a b) (a < b)
-less-tells a b = tells-by (ltb-true a b) (lt-ltb a b)
+less-decides : (a b : ℕ) → Decides (ltb a b) (a < b)
+less-decides a b = decides-by (ltb-true a b) (lt-ltb a b)
 
 -- ---- the cases, in the order of their numbers
 
 -- 1 and 12
-differs-tells : (a b : ℕ) → Tells (not (eqb a b)) (a ≢ b)
-differs-tells a b = not-tells (eqb a b) (equal-tells a b)
+differs-decides : (a b : ℕ) → Decides (not (eqb a b)) (a ≢ b)
+differs-decides a b = not-decides (eqb a b) (equal-decides a b)
 
 -- 2
-unsound-tells : (w : List ℕ) → Tells (not (isSound w)) (Sound w → ⊥)
-unsound-tells w = not-tells (isSound w) (tells-by (isSound→Sound w) (Sound→isSound w))
+unsound-decides : (w : List ℕ) → Decides (not (isSound w)) (Sound w → ⊥)
+unsound-decides w = not-decides (isSound w) (decides-by (isSound→Sound w) (Sound→isSound w))
 
 -- 3
-bad-tells : (s : Setting) → Tells (not (isGood s)) (Good s → ⊥)
-bad-tells s = not-tells (isGood s) (tells-by (isGood→Good s) (Good→isGood s))
+bad-decides : (s : Setting) → Decides (not (isGood s)) (Good s → ⊥)
+bad-decides s = not-decides (isGood s) (decides-by (isGood→Good s) (Good→isGood s))
 
 -- 4: what is looked up is found exactly if some booking has the name
-found-tells : (w : List ℕ) (name : ℕ) → Tells (isFound (lookUp w name)) (Booked w name)
-found-tells w name = go (lookUp w name) refl
+found-decides : (w : List ℕ) (name : ℕ) → Decides (isFound (lookUp w name)) (Booked w name)
+found-decides w name = go (lookUp w name) refl
   where
-    go : (f : Found) → lookUp w name ≡ f → Tells (isFound f) (Booked w name)
-    go (At i) e = tells-by (λ t. record { booking = i; below = found-below w name i e; named = found-name w name i e }) (λ b. refl)
-    go Absent e = tells-by (λ t. absurd (true≢false (sym t))) (λ b. absurd (absent-name w name e (b .booking) (b .below) (b .named)))
+    go : (f : Found) → lookUp w name ≡ f → Decides (isFound f) (Booked w name)
+    go (At i) e = decides-by (λ t. record { booking = i; below = found-below w name i e; named = found-name w name i e }) (λ b. refl)
+    go Absent e = decides-by (λ t. absurd (true≢false (sym t))) (λ b. absurd (absent-name w name e (b .booking) (b .below) (b .named)))
 
 -- 7
-absent-tells : (w : List ℕ) (name : ℕ) → Tells (isAbsent (lookUp w name)) (Booked w name → ⊥)
-absent-tells w name = go (lookUp w name) (found-tells w name)
+absent-decides : (w : List ℕ) (name : ℕ) → Decides (isAbsent (lookUp w name)) (Booked w name → ⊥)
+absent-decides w name = go (lookUp w name) (found-decides w name)
   where
-    go : (f : Found) → Tells (isFound f) (Booked w name) → Tells (isAbsent f) (Booked w name → ⊥)
-    go (At i) tells = not-tells true tells
-    go Absent tells = not-tells false tells
+    go : (f : Found) → Decides (isFound f) (Booked w name) → Decides (isAbsent f) (Booked w name → ⊥)
+    go (At i) tells = not-decides true tells
+    go Absent tells = not-decides false tells
 
-unknown-tells : (w parents : List ℕ) → Tells (hasUnknown w parents) (UnknownParent w parents)
+unknown-decides : (w parents : List ℕ) → Decides (hasUnknown w parents) (UnknownParent w parents)
 unfolding hasUnknown
-unknown-tells w parents =
-    any-tells (λ a. isAbsent (parentFound w parents a)) (length parents)
-    (λ a h e. record { place = a; within = h; unknown = absent-tells w (getD parents a 0) .passes e })
-    (λ u. (u .place, u .within, told _ (absent-tells w (getD parents (u .place) 0)) (u .unknown)))
+unknown-decides w parents =
+    any-decides (λ a. isAbsent (parentFound w parents a)) (length parents)
+    (λ a h e. record { place = a; within = h; unknown = absent-decides w (getD parents a 0) .passes e })
+    (λ u. (u .place, u .within, told _ (absent-decides w (getD parents (u .place) 0)) (u .unknown)))
 
 -- 8
-twice-tells : (parents : List ℕ) → Tells (hasTwice parents) (ParentTwice parents)
+twice-decides : (parents : List ℕ) → Decides (hasTwice parents) (ParentTwice parents)
 unfolding hasTwice
-twice-tells parents =
-    any-tells (λ b. any (λ a. eqb (getD parents a 0) (getD parents b 0)) b) (length parents)
+twice-decides parents =
+    any-decides (λ b. any (λ a. eqb (getD parents a 0) (getD parents b 0)) b) (length parents)
     (λ b h e.
     let found = any→ (λ a. eqb (getD parents a 0) (getD parents b 0)) b e in
     record { earlier = found .0; later = b; ordered = omega (arith, found .1); within = h; same = eqb-true _ _ (found .2) })
@@ -163,12 +162,12 @@ twice-tells parents =
     (p .later, p .within, again))
 
 -- 11: on a sound workspace the booking found is the one with the name
-waiting-tells : (w : List ℕ) → Sound w → (name i : ℕ) → lookUp w name ≡ At i → Tells (not (eqb (stateOf w i) 0)) (NotWaiting w name)
-waiting-tells w sound name i e = tells-by
-    (λ t. record { booking = i; below = found-below w name i e; named = found-name w name i e; state = differs-tells _ _ .passes t })
+waiting-decides : (w : List ℕ) → Sound w → (name i : ℕ) → lookUp w name ≡ At i → Decides (not (eqb (stateOf w i) 0)) (NotWaiting w name)
+waiting-decides w sound name i e = decides-by
+    (λ t. record { booking = i; below = found-below w name i e; named = found-name w name i e; state = differs-decides _ _ .passes t })
     (λ n.
     let same : n .booking ≡ i = cc (found-is w sound (n .booking) (n .below)) in
-    told _ (differs-tells (stateOf w i) 0) (λ z. n .state (ap (stateOf w) same ∙ z)))
+    told _ (differs-decides (stateOf w i) 0) (λ z. n .state (ap (stateOf w) same ∙ z)))
 
 -- 13
 voteOf-refused : (byte : ℕ) → isRefused (voteOf byte) ≡ not (eqb byte 1 || eqb byte 255 || eqb byte 0)
@@ -181,29 +180,29 @@ voteOf-refused byte = go (eqb byte 1) (eqb byte 255) (eqb byte 0)
     go false false true = refl
     go false false false = refl
 
-byte-tells : (byte : ℕ) → Tells (isRefused (voteOf byte)) (((byte ≡ 1) ⊎ (byte ≡ 255)) ⊎ (byte ≡ 0) → ⊥)
-byte-tells byte =
+byte-decides : (byte : ℕ) → Decides (isRefused (voteOf byte)) (((byte ≡ 1) ⊎ (byte ≡ 255)) ⊎ (byte ≡ 0) → ⊥)
+byte-decides byte =
     rw (voteOf-refused byte)
-    (not-tells _ (either-tells _ _ (either-tells _ _ (equal-tells byte 1) (equal-tells byte 255)) (equal-tells byte 0)))
+    (not-decides _ (either-decides _ _ (either-decides _ _ (equal-decides byte 1) (equal-decides byte 255)) (equal-decides byte 0)))
 
-vote-tells : (votes : List ℕ) → Tells (hasRefusedVote votes) (BadVote votes)
-vote-tells votes =
-    any-tells (λ a. isRefused (voteOf (getD votes a 0))) (length votes)
+vote-decides : (votes : List ℕ) → Decides (hasRefusedVote votes) (BadVote votes)
+vote-decides votes =
+    any-decides (λ a. isRefused (voteOf (getD votes a 0))) (length votes)
     (λ a h e.
-    let bad = byte-tells (getD votes a 0) .passes e in
+    let bad = byte-decides (getD votes a 0) .passes e in
     record { place = a; within = h; silent = λ z. bad (inr z); yes = λ z. bad (inl (inl z)); minusOne = λ z. bad (inl (inr z)) })
-    (λ b. (b .place, b .within, told _ (byte-tells (getD votes (b .place) 0)) (⊎-elim (⊎-elim (b .yes) (b .minusOne)) (b .silent))))
+    (λ b. (b .place, b .within, told _ (byte-decides (getD votes (b .place) 0)) (⊎-elim (⊎-elim (b .yes) (b .minusOne)) (b .silent))))
 
 -- ---- a line of the list, off a test: the number is the refusal's where the test passes, and else the rest's
 
 module _ {n : ℕ} {later : Type 0} where
-  refused-first : (r : Refusal) (t : Bool) (rest : Answer) {applies : Type 0} → n ≡ number (cond t (Refused r) rest) → Tells t applies
+  refused-first : (r : Refusal) (t : Bool) (rest : Answer) {applies : Type 0} → n ≡ number (cond t (Refused r) rest) → Decides t applies
       → (t ≡ false → n ≡ number rest → later) → refuses (refusalNumber r) applies (λ k. later) n
   refused-first r true rest e tells onward = inl (tells .passes refl, e)
   refused-first r false rest e tells onward = inr (tells .fails refl, onward refl e)
 
   -- 10, and what follows it knows the number found
-  asked-first : (f : Found) (rest : ℕ → Answer) {known : Type 0} → n ≡ number (askedOf f rest) → Tells (isFound f) known
+  asked-first : (f : Found) (rest : ℕ → Answer) {known : Type 0} → n ≡ number (askedOf f rest) → Decides (isFound f) known
       → ((i : ℕ) → f ≡ At i → n ≡ number (rest i) → later) → refuses (refusalNumber Refusal.UnknownName) (known → ⊥) (λ k. later) n
   asked-first (At i) rest e tells onward = inr (λ d. d (tells .passes refl), onward i refl e)
   asked-first Absent rest e tells onward = inl (tells .fails refl, e)
@@ -212,8 +211,8 @@ module _ {n : ℕ} {later : Type 0} where
 tested-first : {n : ℕ} {later : Type 0} (w : List ℕ) (rest : Answer) → n ≡ number (tested testOf w rest) → (Sound w → n ≡ number rest → later)
     → refuses (refusalNumber Refusal.WrongLength) (length w ≢ size) (refuses (refusalNumber Refusal.NotSound) (Sound w → ⊥) (λ k. later)) n
 tested-first w rest e onward =
-    refused-first Refusal.WrongLength _ _ (e ∙ ap number (tested-in-order w rest)) (differs-tells (length w) size) (λ t e.
-    refused-first Refusal.NotSound _ _ e (unsound-tells w) (λ t. onward (isSound→Sound w (not-false _ t))))
+    refused-first Refusal.WrongLength _ _ (e ∙ ap number (tested-in-order w rest)) (differs-decides (length w) size) (λ t e.
+    refused-first Refusal.NotSound _ _ e (unsound-decides w) (λ t. onward (isSound→Sound w (not-false _ t))))
 
 -- ---- the lists
 
@@ -224,36 +223,36 @@ leaves-answer (Refused r) before after = refl
 open-listed : (w : List ℕ) (s : Setting) → OpenListed w s (number (openCall w s .answer))
 unfolding openCall
 open-listed w s =
-    refused-first Refusal.WrongLength _ _ (ap number (leaves-answer (openAnswer w s) w (opened s))) (differs-tells (length w) size) (λ t e.
-    refused-first Refusal.BadSetting _ _ e (bad-tells s) (λ t e.
+    refused-first Refusal.WrongLength _ _ (ap number (leaves-answer (openAnswer w s) w (opened s))) (differs-decides (length w) size) (λ t e.
+    refused-first Refusal.BadSetting _ _ e (bad-decides s) (λ t e.
     e))
 
 book-listed : (w : List ℕ) (name slot : ℕ) (parents : List ℕ) → BookListed w name slot parents (number (bookCall w name slot parents .answer))
 unfolding bookCall
 book-listed w name slot parents =
     tested-first w _ (ap number (leaves-answer (bookAnswer testOf w name slot parents) w (booked w name slot parents))) (λ sound e.
-    refused-first Refusal.NameTaken _ _ e (found-tells w name) (λ t e.
-    refused-first Refusal.BadSlot _ _ e (either-tells _ _ (equal-tells slot 0) (most-tells slots slot)) (λ t e.
-    refused-first Refusal.BadParents _ _ e (either-tells _ _ (equal-tells (length parents) 0) (less-tells mostParents (length parents))) (λ t e.
-    refused-first Refusal.UnknownParent _ _ e (unknown-tells w parents) (λ t e.
-    refused-first Refusal.ParentTwice _ _ e (twice-tells parents) (λ t e.
-    refused-first Refusal.Full _ _ e (equal-tells (bookings w) mostBookings) (λ t e.
+    refused-first Refusal.NameTaken _ _ e (found-decides w name) (λ t e.
+    refused-first Refusal.BadSlot _ _ e (either-decides _ _ (equal-decides slot 0) (most-decides slots slot)) (λ t e.
+    refused-first Refusal.BadParents _ _ e (either-decides _ _ (equal-decides (length parents) 0) (less-decides mostParents (length parents))) (λ t e.
+    refused-first Refusal.UnknownParent _ _ e (unknown-decides w parents) (λ t e.
+    refused-first Refusal.ParentTwice _ _ e (twice-decides parents) (λ t e.
+    refused-first Refusal.Full _ _ e (equal-decides (bookings w) mostBookings) (λ t e.
     e)))))))
 
 poll-listed : (w : List ℕ) (name : ℕ) (votes : List ℕ) → PollListed w name votes (number (pollCall w name votes .answer))
 unfolding pollCall
 poll-listed w name votes =
     tested-first w _ (ap number (leaves-answer (pollAnswer testOf w name votes) w (polled w (numberOf (lookUp w name)) votes))) (λ sound e.
-    asked-first (lookUp w name) _ e (found-tells w name) (λ i found e.
-    refused-first Refusal.NotWaiting _ _ e (waiting-tells w sound name i found) (λ t e.
-    refused-first Refusal.WrongVotes _ _ e (differs-tells (length votes) (settingIn w .k)) (λ t e.
-    refused-first Refusal.BadVote _ _ e (vote-tells votes) (λ t e.
+    asked-first (lookUp w name) _ e (found-decides w name) (λ i found e.
+    refused-first Refusal.NotWaiting _ _ e (waiting-decides w sound name i found) (λ t e.
+    refused-first Refusal.WrongVotes _ _ e (differs-decides (length votes) (settingIn w .k)) (λ t e.
+    refused-first Refusal.BadVote _ _ e (vote-decides votes) (λ t e.
     e)))))
 
 reading-listed : (f : ℕ → ℤ) (w : List ℕ) (name : ℕ) → ReadingListed w name (number (readingCall f w name))
 reading-listed f w name =
     tested-first w _ refl (λ sound e.
-    asked-first (lookUp w name) _ e (found-tells w name) (λ i found e.
+    asked-first (lookUp w name) _ e (found-decides w name) (λ i found e.
     e))
 
 list-listed : (w : List ℕ) → ListListed w (number (listCall w))

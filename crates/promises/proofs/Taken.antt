@@ -1,7 +1,7 @@
 -- What a taken call has passed: each of its tests failed, so the fact that each refusal would deny holds, and its words are the rule's.
 -- What a refused call leaves: every word. Assumes nothing.
 use mathlib.Core.Path.{_≡_, refl, sym, ap, _∙_}
-use mathlib.Core.Bool.{Bool, true, false, _||_, cond, true≢false}
+use mathlib.Core.Bool.{Bool, true, false, cond, true≢false}
 use mathlib.Core.List.{List}
 use mathlib.Core.Logic.{_≢_}
 use Prim.Native.Nat.{ℕ, _<_, _≤_}
@@ -22,7 +22,6 @@ use Rattle.terms.specs.declared.answer.Answer.the-variants.{Taken, Refused}
 use Rattle.terms.specs.Answers.{number, value, leaves}
 use Rattle.rules.specs.Layout.{size, mostBookings, mostParents, slots, bookings, nameOf, stateOf, slotOf, confidenceOf, preferredIn}
 use Rattle.terms.specs.Setting.{Good}
-use Rattle.rules.specs.IsSound.{isSound}
 use Rattle.rules.specs.Sound.{Ledger}
 use Rattle.rules.specs.Open.{opened}
 use Rattle.rules.specs.Book.{lookUp, numberOf, hasUnknown, hasTwice, booked}

@@ -3,26 +3,25 @@ use mathlib.Core.Path.{_≡_, refl, sym, ap, _∙_}
 use mathlib.Core.Bool.{Bool, true, false, true≢false}
 use mathlib.Core.List.{List}
 use mathlib.Core.Logic.{_↔_, _⊎_, inl, inr, ⊎-elim}
-use Prim.Native.Nat.{ℕ, zero, suc, _+_, _<_, _≤_}
+use Prim.Native.Nat.{ℕ, zero, suc, _+_, _<_}
 use native.Mathlib.Numerals.{add-one}
 use native.Mathlib.Nat.{add-zero}
 use native.Mathlib.Omega.{arith}
-use lib.IntN.{ℤ, pos, _-ℤ_}
+use lib.IntN.{ℤ, pos}
 use Rattle.loops.specs.Total.{bit, total, count}
-use Rattle.terms.specs.declared.answer.Answer.{Answer}
 use Rattle.terms.specs.declared.answer.Answer.the-variants.{Taken}
-use Rattle.rules.specs.Layout.{bookings, nameOf, slotOf, confidenceOf, preferredIn}
+use Rattle.rules.specs.Layout.{bookings, nameOf, confidenceOf}
 use Rattle.rules.specs.Ancestry.{Reaches, ancestry, isMember}
 use Rattle.rules.specs.Readings.{queryOf, acceptedOf, leadOf, rivalsMost, sizeOf}
 use Rattle.rules.specs.Sound.{Ledger}
-use Rattle.rules.specs.Calls.{readingCall, queryCall, acceptedCall, leadCall, confidenceCall, sizeCall}
+use Rattle.rules.specs.Calls.{readingCall}
 use Rattle.rule_laws.proofs.Lookup.{found-is}
 use Rattle.rule_laws.proofs.Tested.{reading-found}
 use Rattle.rule_laws.proofs.Ancestry.{marks→Reaches, Reaches→marks}
-use Rattle.rules.specs.Told.{FirstArm, SecondArm}
+use Rattle.rules.specs.InWords.{FirstArm, SecondArm}
 use Rattle.rule_laws.proofs.Accepted.{accepted-is, accepted-genesis}
 use Rattle.rule_laws.proofs.Readings.{query-is, rivalsMost-is}
-use Rattle.promises.specs.Told.{Sized, nobody, counts, passes, Tells, Told, ReadingsTold}
+use Rattle.promises.specs.Told.{Sized, nobody, counts, passes, Told, ReadingsTold}
 
 module _ (w : List ℕ) (ledger : Ledger w) (i : ℕ) (below : i < bookings w) where
   told : (f : ℕ → ℤ) → readingCall f w (nameOf w i) ≡ Taken (f i)

@@ -13,11 +13,11 @@ use borrow.Author.Tests.{eqb-true, eqb-false, eq-eqb, ne-eqb, ltb-true, lt-ltb}
 use Rattle.loops.specs.Turns.{upTo}
 use Rattle.loops.proofs.Turns.{upTo-kept, upTo-since}
 use Rattle.loops.proofs.Search.{all→, →all}
-use Rattle.rules.specs.Layout.{mostBookings, mostParents, none, bookings, settingIn, slotOf, parentOf, preferredIn, lastIn, counterIn, heldIn}
+use Rattle.rules.specs.Layout.{mostBookings, mostParents, none, bookings, parentOf}
 use Rattle.rules.specs.Ancestry.{Parent, isMember, mark, unmarked}
 use Rattle.rules.specs.Readings.{parentsAccepted, firstArm, secondArm, acceptOne, acceptedBelow, acceptedOf}
 use Rattle.rules.specs.Sound.{Sound}
-use Rattle.rules.specs.Told.{FirstArm, SecondArm}
+use Rattle.rules.specs.InWords.{FirstArm, SecondArm}
 use Rattle.loops.proofs.Bools.{and-both, or-right, or-else, or-either}
 use Rattle.rule_laws.proofs.Ancestry.{length-unmarked, unmarked-zero, Parent-lt}
 

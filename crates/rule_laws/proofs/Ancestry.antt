@@ -21,31 +21,27 @@ use Rattle.rules.specs.Sound.{Sound}
 
 -- ---- what becomes of the mark at k, from m to m′: it stays, or it is made, and then for the reason P
 
-data Grown (m m′ : List ℕ) (k : ℕ) (P : Type 0) : Type 0 where
-  stays : getD m′ k 0 ≡ getD m k 0 → Grown m m′ k P
-  made : P → getD m′ k 0 ≡ 1 → Grown m m′ k P
+data MarkGrown (m m′ : List ℕ) (k : ℕ) (P : Type 0) : Type 0 where
+  stays : getD m′ k 0 ≡ getD m k 0 → MarkGrown m m′ k P
+  made : P → getD m′ k 0 ≡ 1 → MarkGrown m m′ k P
 
 abbrev Marked : List ℕ → ℕ → Type 0
 Marked m k = getD m k 0 ≡ 1
 
 module _ {m m′ : List ℕ} {k : ℕ} {P : Type 0} where
-  grown-kept : Grown m m′ k P → Marked m k → Marked m′ k
+  grown-kept : MarkGrown m m′ k P → Marked m k → Marked m′ k
   grown-kept (stays e) t = e ∙ t
   grown-kept (made p e) t = e
 
-  grown-only : Grown m m′ k P → Marked m′ k → Marked m k ⊎ P
+  grown-only : MarkGrown m m′ k P → Marked m′ k → Marked m k ⊎ P
   grown-only (stays e) t = inl (sym e ∙ t)
   grown-only (made p e) t = inr p
 
-  grown-bit : Grown m m′ k P → getD m k 0 ≤ 1 → getD m′ k 0 ≤ 1
-  grown-bit (stays e) h = omega arith
-  grown-bit (made p e) h = omega arith
-
-  grown-for : {Q : Type 0} → (P → Q) → Grown m m′ k P → Grown m m′ k Q
+  grown-for : {Q : Type 0} → (P → Q) → MarkGrown m m′ k P → MarkGrown m m′ k Q
   grown-for f (stays e) = stays e
   grown-for f (made p e) = made (f p) e
 
-  grown-then : {m″ : List ℕ} → Grown m m′ k P → Grown m′ m″ k P → Grown m m″ k P
+  grown-then : {m″ : List ℕ} → MarkGrown m m′ k P → MarkGrown m′ m″ k P → MarkGrown m m″ k P
   grown-then (stays e) (stays d) = stays (d ∙ e)
   grown-then (made p e) (stays d) = made p (d ∙ e)
   grown-then g (made p e) = made p e
@@ -55,10 +51,10 @@ module _ {m m′ : List ℕ} {k : ℕ} {P : Type 0} where
 mark-new : (m : List ℕ) (p : ℕ) → p < length m → Marked (mark p m) p
 mark-new m p h = getD-set-same m p 1 0 h
 
-mark-grown : (m : List ℕ) (p k : ℕ) → Grown m (mark p m) k ((k ≡ p) × (p < length m))
+mark-grown : (m : List ℕ) (p k : ℕ) → MarkGrown m (mark p m) k ((k ≡ p) × (p < length m))
 mark-grown m p k = go (ℕ-discrete k p) (decLt p (length m))
   where
-    go : Dec (k ≡ p) → Dec (p < length m) → Grown m (mark p m) k ((k ≡ p) × (p < length m))
+    go : Dec (k ≡ p) → Dec (p < length m) → MarkGrown m (mark p m) k ((k ≡ p) × (p < length m))
     go (yes e) (yes h) = made (e, h) (ap (λ x. getD (set m p 1) x 0) e ∙ mark-new m p h)
     go (no d) h = stays (getD-set-other m p k 1 0 d)
     go (yes e) (no h) = stays (ap (λ l. getD l k 0) (set-out m p 1 (omega arith)))
@@ -74,7 +70,7 @@ module _ (w : List ℕ) (j : ℕ) where
   length-markParents n m = upTo-kept markParent (λ v. length v ≡ length m) n (λ a l v e. simp length-set e) m refl
 
   -- an unused place is past the end of the marks
-  parents-grown : (n : ℕ) (m : List ℕ) (k : ℕ) → n ≤ mostParents → length m ≡ mostBookings → Grown m (upTo markParent n m) k (Parent w j k)
+  parents-grown : (n : ℕ) (m : List ℕ) (k : ℕ) → n ≤ mostParents → length m ≡ mostBookings → MarkGrown m (upTo markParent n m) k (Parent w j k)
   unfolding markParent upTo
   parents-grown zero m k h e = stays refl
   parents-grown (suc n) m k h e =
@@ -101,11 +97,11 @@ module _ (w : List ℕ) (j : ℕ) (m : List ℕ) where
   unfolding spread markParent
   spread-new p t a h = rw (eq-eqb (getD m j 0) 1 t) (parents-new w j m p a h)
 
-  spread-grown : (k : ℕ) → length m ≡ mostBookings → Grown m (spread w j m) k (Marked m j × Parent w j k)
+  spread-grown : (k : ℕ) → length m ≡ mostBookings → MarkGrown m (spread w j m) k (Marked m j × Parent w j k)
   unfolding spread markParent
   spread-grown k e = go (isMember m j) refl
     where
-      go : (b : Bool) → isMember m j ≡ b → Grown m (cond b (markParents w j m) m) k (Marked m j × Parent w j k)
+      go : (b : Bool) → isMember m j ≡ b → MarkGrown m (cond b (markParents w j m) m) k (Marked m j × Parent w j k)
       go true q = grown-for (λ a. (eqb-true _ _ q, a)) (parents-grown w j mostParents m k (omega arith) e)
       go false q = stays refl
 
@@ -117,7 +113,7 @@ length-sweep w zero m = refl
 length-sweep w (suc j) m = length-sweep w j (spread w j m) ∙ length-spread w j m
 
 -- marks are made only for what is reached
-sweep-grown : (w : List ℕ) (i j : ℕ) (m : List ℕ) (k : ℕ) → length m ≡ mostBookings → ((x : ℕ) → Marked m x → Reaches w i x) → Grown m (sweep w j m) k (Reaches w i k)
+sweep-grown : (w : List ℕ) (i j : ℕ) (m : List ℕ) (k : ℕ) → length m ≡ mostBookings → ((x : ℕ) → Marked m x → Reaches w i x) → MarkGrown m (sweep w j m) k (Reaches w i k)
 unfolding sweep
 sweep-grown w i zero m k e h = stays refl
 sweep-grown w i (suc j) m k e h =
@@ -147,20 +143,12 @@ start-only i k t = ⊎-elim (λ (u : Marked unmarked k). absurd (omega (arith, u
 -- ---- the marks of booking i's ancestry, on any words
 
 module _ (w : List ℕ) (i : ℕ) where
-  pub length-ancestry : length (ancestry w i) ≡ mostBookings
-  unfolding ancestry
-  length-ancestry = length-sweep w (suc i) (mark i unmarked) ∙ length-start i
-
-  swept-grown : (k : ℕ) → Grown (mark i unmarked) (ancestry w i) k (Reaches w i k)
+  swept-grown : (k : ℕ) → MarkGrown (mark i unmarked) (ancestry w i) k (Reaches w i k)
   unfolding ancestry
   swept-grown k = sweep-grown w i (suc i) (mark i unmarked) k (length-start i) (λ x t. subst (Reaches w i) (sym (start-only i x t)) self)
 
-  ancestry-grown : (k : ℕ) → Grown unmarked (ancestry w i) k (Reaches w i k)
+  ancestry-grown : (k : ℕ) → MarkGrown unmarked (ancestry w i) k (Reaches w i k)
   ancestry-grown k = grown-then (grown-for (λ u. subst (Reaches w i) (sym (u .0)) self) (mark-grown unmarked i k)) (swept-grown k)
-
-  -- a mark is 0 or 1
-  pub ancestry-bit : (k : ℕ) → getD (ancestry w i) k 0 ≤ 1
-  ancestry-bit k = grown-bit (ancestry-grown k) (omega (arith, unmarked-zero k))
 
   -- a member is reached
   pub marks→Reaches : (k : ℕ) → isMember (ancestry w i) k ≡ true → Reaches w i k
@@ -230,23 +218,6 @@ module _ (w : List ℕ) (sound : Sound w) where
 
     pub member-self : isMember (ancestry w i) i ≡ true
     member-self = Reaches→marks i self
-
-  -- every booking but the genesis has a parent, which is lower: so the genesis is reached
-  Reaches-genesis-below : (n i : ℕ) → i < n → i < bookings w → Reaches w i 0
-  Reaches-genesis-below zero i l h = absurd (omega arith)
-  Reaches-genesis-below (suc n) zero l h = self
-  Reaches-genesis-below (suc n) (suc i) l h =
-      let b = sound .booking (suc i) (omega arith) h in
-      let a = b .parentSome in
-      let parent : Parent w (suc i) (parentOf w (suc i) (a .0)) = record { place = a .0; within = a .1; stands = refl; used = a .2 } in
-      let lower = Parent-lt (suc i) (parentOf w (suc i) (a .0)) h parent in
-      Reaches-then (up self parent) (Reaches-genesis-below n (parentOf w (suc i) (a .0)) (omega arith) (omega arith))
-
-  pub Reaches-genesis : (i : ℕ) → i < bookings w → Reaches w i 0
-  Reaches-genesis i h = Reaches-genesis-below (suc i) i (omega arith) h
-
-  pub member-genesis : (i : ℕ) → i < bookings w → isMember (ancestry w i) 0 ≡ true
-  member-genesis i h = Reaches→marks i h 0 (Reaches-genesis i h)
 
 -- ---- the turns of a loop that counts down
 

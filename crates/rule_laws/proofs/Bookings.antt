@@ -26,11 +26,11 @@ pub differs→new : (f : ℕ → ℕ) (i : ℕ) → ((j : ℕ) → j < i → f j
 differs→new f i h = ap not (→none (λ j. eqb (f j) (f i)) i (λ j l. ne-eqb (f j) (f i) (h j l)))
 
 -- what holds between each number and the lower ones holds between any two that differ, if the two may change places
-pub any-two : (n : ℕ) (R : ℕ → ℕ → Type 0)
+pub either-order : (n : ℕ) (R : ℕ → ℕ → Type 0)
     → ((i j : ℕ) → R i j → R j i)
     → ((i : ℕ) → i < n → (j : ℕ) → j < i → R j i)
     → (i j : ℕ) → i < n → j < n → i ≢ j → R i j
-any-two n R turn lower i j li lj q = go (decLt i j)
+either-order n R turn lower i j li lj q = go (decLt i j)
   where
     go : Dec (i < j) → R i j
     go (yes l) = lower j lj i l

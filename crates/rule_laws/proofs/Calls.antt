@@ -31,7 +31,7 @@ use Rattle.terms.specs.declared.answer.Tested.the-variants.{Fine, Stop}
 use Rattle.terms.specs.declared.answer.Answer.{Answer}
 use Rattle.terms.specs.declared.answer.Answer.the-variants.{Taken, Refused}
 use Rattle.terms.specs.Answers.{refusalNumber, number, value, Outcome, leaves}
-use Rattle.rules.specs.Calls.{openAnswer, openCall, testOf, unlessStopped, bookAnswer, bookCall, pollAnswer, pollCall, askedOf, readingCall}
+use Rattle.rules.specs.Calls.{openAnswer, openCall, testOf, unlessStopped, bookAnswer, bookCall, pollAnswer, pollCall, askedOf}
 
 -- ---- the number tells a refusal from a taken call
 
@@ -61,28 +61,25 @@ value-refused (Taken v) h = absurd (h refl)
 value-refused (Refused r) h = refl
 
 -- what a refused writing call gives: every word stays, and the value is 0
-pub record Kept (w : List ℕ) (o : Outcome) : Type 0 where
+pub record Unmoved (w : List ℕ) (o : Outcome) : Type 0 where
   pub words : o .words ≡ w
   pub value : value (o .answer) ≡ pos 0
 
-pub leaves-refused : (a : Answer) (before after : List ℕ) → number (leaves a before after .answer) ≢ 0 → Kept before (leaves a before after)
+pub leaves-refused : (a : Answer) (before after : List ℕ) → number (leaves a before after .answer) ≢ 0 → Unmoved before (leaves a before after)
 leaves-refused (Taken v) before after h = absurd (h refl)
 leaves-refused (Refused r) before after h = record { words = refl; value = refl }
 
-pub open-refused : (w : List ℕ) (s : Setting) → number (openCall w s .answer) ≢ 0 → Kept w (openCall w s)
+pub open-refused : (w : List ℕ) (s : Setting) → number (openCall w s .answer) ≢ 0 → Unmoved w (openCall w s)
 unfolding openCall
 open-refused w s = leaves-refused (openAnswer w s) w _
 
-pub book-refused : (w : List ℕ) (name slot : ℕ) (parents : List ℕ) → number (bookCall w name slot parents .answer) ≢ 0 → Kept w (bookCall w name slot parents)
+pub book-refused : (w : List ℕ) (name slot : ℕ) (parents : List ℕ) → number (bookCall w name slot parents .answer) ≢ 0 → Unmoved w (bookCall w name slot parents)
 unfolding bookCall
 book-refused w name slot parents = leaves-refused (bookAnswer testOf w name slot parents) w _
 
-pub poll-refused : (w : List ℕ) (name : ℕ) (votes : List ℕ) → number (pollCall w name votes .answer) ≢ 0 → Kept w (pollCall w name votes)
+pub poll-refused : (w : List ℕ) (name : ℕ) (votes : List ℕ) → number (pollCall w name votes .answer) ≢ 0 → Unmoved w (pollCall w name votes)
 unfolding pollCall
 poll-refused w name votes = leaves-refused (pollAnswer testOf w name votes) w _
-
-pub reading-refused : (reading : ℕ → ℤ) (w : List ℕ) (name : ℕ) → number (readingCall reading w name) ≢ 0 → value (readingCall reading w name) ≡ pos 0
-reading-refused reading w name = value-refused (readingCall reading w name)
 
 -- ---- open, book and poll have value 0, taken or refused
 

@@ -161,8 +161,8 @@ module _ (s : Setting) where
   ordinal-zero : (i : ℕ) → i < bookings (opened s) → ordinalOf (opened s) i ≡ 0
   ordinal-zero i u = rw (genesis-only i u) (genesis-opened s ordinalField (omega arith))
 
-  pub opened-sound : Good s → Sound (opened s)
-  opened-sound good =
+  pub Sound-opened : Good s → Sound (opened s)
+  Sound-opened good =
       let one : bookings (opened s) ≡ 1 = bookings-opened s in
       let unpolled : polls (opened s) ≡ 0 = header-opened s pollsField (omega arith) in
       record {
@@ -190,7 +190,7 @@ module _ (s : Setting) where
       }
 
   pub opened-ledger : Good s → Ledger (opened s)
-  opened-ledger good = record { whole = length-opened s; sound = opened-sound good }
+  opened-ledger good = record { whole = length-opened s; sound = Sound-opened good }
 
   pub opened-isSound : Good s → isSound (opened s) ≡ true
-  opened-isSound good = Sound→isSound (opened s) (opened-sound good)
+  opened-isSound good = Sound→isSound (opened s) (Sound-opened good)

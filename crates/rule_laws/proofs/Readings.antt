@@ -3,7 +3,7 @@
 use mathlib.Core.Path.{_≡_, refl, sym, ap}
 use mathlib.Core.Bool.{Bool, true, false, not, _||_, cond, and-eq-true-iff}
 use mathlib.Core.List.{List}
-use mathlib.Core.Logic.{_≢_, _⊎_, inl, inr, ⊎-elim, _↔_}
+use mathlib.Core.Logic.{_⊎_, inl, inr, ⊎-elim, _↔_}
 use Prim.Native.Nat.{ℕ, zero, suc, _-_, _<_, _≤_}
 use native.Mathlib.Omega.{arith}
 use lib.Dec.{eqb, ltb}
@@ -15,9 +15,9 @@ use Rattle.loops.proofs.Search.{all→, →all}
 use Rattle.rules.specs.Layout.{mostBookings, slots, bookings, slotOf, stateOf, confidenceOf, preferredIn, counterIn}
 use Rattle.rules.specs.IsSound.{chits}
 use Rattle.rules.specs.Ancestry.{Reaches, isMember, ancestry}
-use Rattle.rules.specs.Sound.{Sound, BookingOf}
+use Rattle.rules.specs.Sound.{Sound}
 use Rattle.rules.specs.Readings.{isPreferred, queryOf, acceptedOf, isRival, rivalConfidence, rivalsMost, leadOf, sizeOf}
-use Rattle.rules.specs.Told.{Rival, MostOfRivals}
+use Rattle.rules.specs.InWords.{Rival, MostOfRivals}
 use Rattle.loops.proofs.Bools.{or-right, or-else}
 use Rattle.rule_laws.proofs.Ancestry.{Reaches-le, marks→Reaches, Reaches→marks, member-self}
 

@@ -51,7 +51,7 @@ use Rattle.rule_laws.proofs.Good.{isGood→Good, Good→isGood}
 use Rattle.rule_laws.proofs.Bookings.{
   new→differs,
   differs→new,
-  any-two,
+  either-order,
   at-place,
   stateGood→ordinalMost,
   bookingGood→nameNew,
@@ -166,11 +166,11 @@ module _ (w : List ℕ) (e : isSound w ≡ true) where
     genesisParents = genesis-parents;
     genesisState = eqb-true (stateOf w 0) 1 (genesis-at 6);
     genesisOrdinal = eqb-true (ordinalOf w 0) 0 (genesis-at 7);
-    nameAlone = any-two (bookings w) (λ i j. nameOf w i ≢ nameOf w j) (λ i j. Ne·symm) name-new;
+    nameAlone = either-order (bookings w) (λ i j. nameOf w i ≢ nameOf w j) (λ i j. Ne·symm) name-new;
     booking = λ i l u. bookingGood→Booking w i (booking-good i l u);
     ordinalMost = ordinal-most;
     ordinalHeld = ordinal-held;
-    ordinalAlone = any-two (bookings w) (λ i j. ordinalOf w i ≢ 0 → ordinalOf w i ≢ ordinalOf w j) (λ i j r q d. r (λ z. q (d ∙ z)) (sym d)) ordinal-new;
+    ordinalAlone = either-order (bookings w) (λ i j. ordinalOf w i ≢ 0 → ordinalOf w i ≢ ordinalOf w j) (λ i j r q d. r (λ z. q (d ∙ z)) (sym d)) ordinal-new;
     restZero = rest-zero;
     emptyEntry = λ s u. slotGood→EmptyEntry w s (slot-good s u);
     heldEntry = λ s u. slotGood→HeldEntry w s (slot-good s u);

@@ -12,12 +12,12 @@ use Rattle.loops.specs.Search.{firstFrom}
 use Rattle.loops.specs.Total.{bit, total, greatest}
 use Rattle.loops.specs.Fill.{from}
 use Rattle.loops.specs.Rows.{walkFrom}
-use Rattle.terms.specs.declared.setting.Setting.{Setting}
 use Rattle.terms.specs.declared.answer.Reading.{Reading}
 use Rattle.terms.specs.declared.answer.Reading.the-variants.{Query, Accepted, Lead, Confidence, Size}
 use Rattle.terms.specs.declared.answer.Refusal.the-variants.{BadSetting}
 use Rattle.terms.specs.declared.answer.Answer.{Answer}
 use Rattle.terms.specs.declared.answer.Answer.the-variants.{Taken, Refused}
+use Rattle.terms.specs.Setting.{settingOf}
 use Rattle.terms.specs.Answers.{Outcome, done}
 use Rattle.rules.specs.Layout.{
   size,
@@ -38,16 +38,7 @@ use Rattle.rules.specs.Layout.{
 }
 use Rattle.terms.specs.Votes.{voteOf}
 use Rattle.rules.specs.Ancestry.{ancestry, sweep, spread}
-use Rattle.rules.specs.IsSound.{
-  isSound,
-  headerGood,
-  genesisGood,
-  bookingGood,
-  parentsGood,
-  stateGood,
-  chits,
-  bookingsOf,
-}
+use Rattle.rules.specs.IsSound.{headerGood, genesisGood, bookingGood, parentsGood, stateGood, chits, bookingsOf}
 use Rattle.rules.specs.Open.{opened, openWord}
 use Rattle.rules.specs.Book.{lookUp, hasUnknown, hasTwice, entered, booked}
 use Rattle.rules.specs.Poll.{polled, raiseOne, prefer, follow, settleOne}
@@ -55,9 +46,6 @@ use Rattle.rules.specs.Readings.{queryOf, acceptOne, acceptedOf, rivalsM
 use Rattle.rules.specs.Calls.{openCall, testBy, testOf, bookBy, pollBy, readBy, bookCall, pollCall, readCall}
 use Rattle.rules.proofs.Same.{Got, got, Passes, passes, sameTable, same-table}
 use Rattle.rules.proofs.Walk.{isSoundWalked, walked-is}
-
-abbrev setting : ℕ → ℕ → ℕ → ℕ → Setting
-setting k a beta1 beta2 = record { k = k; a = a; beta1 = beta1; beta2 = beta2 }
 
 -- whether two workspaces have the same words
 unfoldable pub same : List ℕ → List ℕ → Bool
@@ -96,7 +84,7 @@ unopened = replicate size 0
 
 unfoldable pub diamond : Made → List (List Got)
 diamond c =
-    let empty = openCall unopened (setting 3 2 1 2) .words in
+    let empty = openCall unopened (settingOf 3 2 1 2) .words in
     let booked1 = c .book empty 1 7 (0 ∷ []) .words in
     let booked2 = c .book booked1 2 7 (0 ∷ []) .words in
     let booked3 = c .book booked2 3 9 (1 ∷ []) .words in
@@ -146,7 +134,7 @@ diamondSays =
 
 unfoldable pub alone : Made → List (List Got)
 alone c =
-    let booked = c .book (c .book (openCall unopened (setting 1 1 1 2) .words) 1 7 (0 ∷ []) .words) 2 8 (1 ∷ []) .words in
+    let booked = c .book (c .book (openCall unopened (settingOf 1 1 1 2) .words) 1 7 (0 ∷ []) .words) 2 8 (1 ∷ []) .words in
     let poll1 = c .poll booked 1 (1 ∷ []) .words in
     let poll2 = c .poll poll1 2 (1 ∷ []) .words in
     -- P9: after the first poll the counter, and accepted of 1
@@ -154,7 +142,7 @@ alone c =
     -- P10: after the second
     ∷ (is (counterIn poll2 7) ∷ got (c .ask Accepted poll2 1) ∷ [])
     -- P12: k = 2 with a = 1, and with a = 2
-    ∷ (got (openCall unopened (setting 2 1 1 2) .answer) ∷ got (openCall unopened (setting 2 2 1 2) .answer) ∷ [])
+    ∷ (got (openCall unopened (settingOf 2 1 1 2) .answer) ∷ got (openCall unopened (settingOf 2 2 1 2) .answer) ∷ [])
     ∷ []
 
 unfoldable pub aloneSays : List (List Got)
@@ -168,7 +156,7 @@ aloneSays =
 
 unfoldable pub rivals : Made → List (List Got)
 rivals c =
-    let booked = c .book (c .book (c .book (openCall unopened (setting 1 1 1 1) .words) 1 7 (0 ∷ []) .words) 2 8 (1 ∷ []) .words) 3 7 (0 ∷ []) .words in
+    let booked = c .book (c .book (c .book (openCall unopened (settingOf 1 1 1 1) .words) 1 7 (0 ∷ []) .words) 2 8 (1 ∷ []) .words) 3 7 (0 ∷ []) .words in
     let poll2 = c .poll (c .poll booked 1 (1 ∷ []) .words) 2 (1 ∷ []) .words in
     let parted = withEntry poll2 7 lastField 3 in
     let poll3 = c .poll poll2 3 (1 ∷ []) .words in

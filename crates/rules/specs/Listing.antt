@@ -4,7 +4,7 @@ use mathlib.Core.List.{List, [], _∷_}
 use Rattle.loops.specs.Total.{bit}
 use Rattle.terms.specs.declared.answer.Answer.{Answer}
 use Rattle.terms.specs.Answers.{done}
-use Rattle.rules.specs.Layout.{bookings, slotOf, stateOf, confidenceOf}
+use Rattle.rules.specs.Layout.{slotOf, stateOf, confidenceOf}
 use Rattle.rules.specs.Readings.{isPreferred, acceptedOf}
 use Rattle.rules.specs.Calls.{testOf, tested}
 

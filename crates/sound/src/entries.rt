@@ -6,12 +6,12 @@ ghost use mathlib.Core.Bool.{not};
 ghost use Rattle.loops.specs.Search.{first};
 ghost use Rattle.rules.specs.Layout.{slots};
 ghost use Rattle.rules.specs.IsSound.{chits, slotGood, slotsGood};
-ghost use Rattle.sound_rows.specs.Counted.{Counted};
+ghost use Rattle.sound_rows.specs.HasBookings.{HasBookings};
 ghost use Rattle.sound.specs.Held.{heldBelow};
 
 // The lowest slot entry that breaks a rule, or 256, where the table has the bookings of each slot.
 fn bad_entry(w: &[u16], n: usize, limit: usize, held: &[u16]) -> usize
-    requires { ⌜ Counted (now w) n × (limit ≡ chits (now w)) × (now held ≡ heldBelow (now w) n) ⌝ }
+    requires { ⌜ HasBookings (now w) n × (limit ≡ chits (now w)) × (now held ≡ heldBelow (now w) n) ⌝ }
     ensures { λ r. ⌜ r ≡ first (λ s. not (slotGood (now (w .entry)) s)) slots ⌝ }
 {
     for s in 0..layout::SLOTS {
@@ -24,7 +24,7 @@ fn bad_entry(w: &[u16], n: usize, limit: usize, held: &[u16]) -> usize
 }
 
 pub(crate) fn slots_good(w: &[u16], n: usize, limit: usize) -> bool
-    requires { ⌜ Counted (now w) n × (limit ≡ chits (now w)) ⌝ }
+    requires { ⌜ HasBookings (now w) n × (limit ≡ chits (now w)) ⌝ }
     ensures { λ r. ⌜ r ≡ slotsGood (now (w .entry)) ⌝ }
 {
     let mut held = [0u16; layout::SLOTS];

@@ -9,12 +9,12 @@ ghost use Rattle.loops.specs.Search.{first};
 ghost use Rattle.rules.specs.Layout.{mostBookings, bookings, polls};
 ghost use Rattle.rules.specs.IsSound.{chits, nameNew, bookingGood, recordGood, recordsGood, recordZero};
 ghost use Rattle.name_filter.specs.Names.{namesBelow};
-ghost use Rattle.sound_rows.specs.Counted.{Counted};
+ghost use Rattle.sound_rows.specs.HasBookings.{HasBookings};
 ghost use Rattle.sound.specs.Ordinals.{ordinalsBelow, Reached};
 
 // How many of the n records are in state 2.
 pub(crate) fn chits(w: &[u16], n: usize) -> usize
-    requires { ⌜ Counted (now w) n ⌝ }
+    requires { ⌜ HasBookings (now w) n ⌝ }
     ensures { λ r. ⌜ r ≡ chits (now (w .entry)) ⌝ }
 {
     let mut found = 0;
@@ -53,7 +53,7 @@ fn record_good(w: &[u16], i: usize, limit: usize, marks: &[u64], fresh: bool) ->
 
 // The lowest of the n records that breaks a rule, or n. The ordinals of those before it are marked then. The filter, of no names at first, is scratch.
 fn bad_record(w: &[u16], n: usize, limit: usize, marks: &mut [u64], filter: &mut [u64]) -> usize
-    requires { ⌜ Counted (now w) n × Reached (now w) 0 (now marks) × (limit ≡ chits (now w)) × (now filter ≡ namesBelow (now w) 0) ⌝ }
+    requires { ⌜ HasBookings (now w) n × Reached (now w) 0 (now marks) × (limit ≡ chits (now w)) × (now filter ≡ namesBelow (now w) 0) ⌝ }
     ensures { λ r. ⌜ (r ≡ first (λ i. not (recordGood (now (w .entry)) i)) n) × (now (marks .exit) ≡ ordinalsBelow (now (w .entry)) r) ⌝ }
 {
     for i in 0..n {
@@ -69,7 +69,7 @@ fn bad_record(w: &[u16], n: usize, limit: usize, marks: &mut [u64], filter: &mut
 
 // The lowest record from n on that is not all zero, or 512.
 fn stray_record(w: &[u16], n: usize) -> usize
-    requires { ⌜ Counted (now w) n ⌝ }
+    requires { ⌜ HasBookings (now w) n ⌝ }
     ensures { λ r. ⌜ r ≡ first (λ i. not (ltb i (bookings (now (w .entry))) || recordZero (now (w .entry)) i)) mostBookings ⌝ }
 {
     for i in n..layout::MOST_BOOKINGS {
@@ -81,7 +81,7 @@ fn stray_record(w: &[u16], n: usize) -> usize
 }
 
 pub(crate) fn records_good(w: &[u16], n: usize, limit: usize) -> bool
-    requires { ⌜ Counted (now w) n × (polls (now w) < mostBookings) × (limit ≡ chits (now w)) ⌝ }
+    requires { ⌜ HasBookings (now w) n × (polls (now w) < mostBookings) × (limit ≡ chits (now w)) ⌝ }
     ensures { λ r. ⌜ r ≡ recordsGood (now (w .entry)) ⌝ }
 {
     let p = words::wide(words::header(w, layout::POLLS));

@@ -1,2 +1,2 @@
 -- What the tests of single rows ask of their caller.
-pub mod Counted
+pub mod HasBookings

@@ -5,7 +5,7 @@ ghost use Prim.Native.Nat.{_<_};
 ghost use lib.ListN.{length};
 ghost use Rattle.rules.specs.Layout.{size, slots};
 ghost use Rattle.rules.specs.IsSound.{chits, bookingsOf, isBookingOf, entryEmpty, entryHeld, slotGood};
-ghost use Rattle.sound_rows.specs.Counted.{Counted};
+ghost use Rattle.sound_rows.specs.HasBookings.{HasBookings};
 
 // 65535, 65535, 0, 0.
 fn entry_empty(w: &[u16], s: usize) -> bool
@@ -20,7 +20,7 @@ fn entry_empty(w: &[u16], s: usize) -> bool
 
 // i is one of the n bookings, and has slot s.
 fn is_booking_of(w: &[u16], n: usize, s: usize, i: usize) -> bool
-    requires { ⌜ Counted (now w) n ⌝ }
+    requires { ⌜ HasBookings (now w) n ⌝ }
     ensures { λ r. ⌜ r ≡ isBookingOf (now (w .entry)) s i ⌝ }
 {
     if i < n {
@@ -31,7 +31,7 @@ fn is_booking_of(w: &[u16], n: usize, s: usize, i: usize) -> bool
 
 // The number of bookings is the true one, preferred and last are bookings of the slot, the counter is within the limit.
 fn entry_held(w: &[u16], n: usize, limit: usize, s: usize, held: usize) -> bool
-    requires { ⌜ Counted (now w) n × (s < slots) ⌝ }
+    requires { ⌜ HasBookings (now w) n × (s < slots) ⌝ }
     requires { ⌜ (limit ≡ chits (now w)) × (held ≡ bookingsOf (now w) s) ⌝ }
     ensures { λ r. ⌜ r ≡ entryHeld (now (w .entry)) s ⌝ }
 {
@@ -43,7 +43,7 @@ fn entry_held(w: &[u16], n: usize, limit: usize, s: usize, held: usize) -> bool
 
 // Slot entry s, where held is its true number of bookings and limit the number of records in state 2.
 pub fn slot_good(w: &[u16], n: usize, limit: usize, s: usize, held: usize) -> bool
-    requires { ⌜ Counted (now w) n × (s < slots) ⌝ }
+    requires { ⌜ HasBookings (now w) n × (s < slots) ⌝ }
     requires { ⌜ (limit ≡ chits (now w)) × (held ≡ bookingsOf (now w) s) ⌝ }
     ensures { λ r. ⌜ r ≡ slotGood (now (w .entry)) s ⌝ }
 {

@@ -5,12 +5,12 @@ use mathlib.Core.List.{List}
 use lib.IntN.{ℤ}
 use Rattle.terms.specs.declared.answer.Answer.{Answer}
 use Rattle.terms.specs.Answers.{Outcome, outcome, number, value}
-use Rattle.station.specs.Told.{Told, Left}
+use Rattle.station.specs.Returned.{Returned, Handed}
 
 -- of a reading, whose call is an answer
-pub told-of : {a b : Answer} {r : ℕ} {v : ℤ} → a ≡ b → Told a r v → Told b r v
+pub told-of : {a b : Answer} {r : ℕ} {v : ℤ} → a ≡ b → Returned a r v → Returned b r v
 told-of e t = record { numbered = t .numbered ∙ ap number e; valued = t .valued ∙ ap value e }
 
 -- of a writing call, whose outcome has words besides
-pub left-of : {a : Answer} {w : List ℕ} {o : Outcome} {r : ℕ} {v : ℤ} → outcome a w ≡ o → Told a r v → Left o r v w
+pub left-of : {a : Answer} {w : List ℕ} {o : Outcome} {r : ℕ} {v : ℤ} → outcome a w ≡ o → Returned a r v → Handed o r v w
 left-of e t = record { told = told-of (ap (λ o. o .answer) e) t; words = ap (λ o. o .words) e }

@@ -1,2 +1,2 @@
 -- What a caller from outside is told.
-pub mod Told
+pub mod Returned

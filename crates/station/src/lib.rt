@@ -3,11 +3,12 @@
 use terms::answer::Answer;
 use terms::setting::Setting;
 ghost use Rattle.rules.specs.Calls.{openCall, bookCall, pollCall, queryCall, acceptedCall, leadCall, confidenceCall, sizeCall};
-ghost use Rattle.station.specs.Told.{Told, Left, settingOf};
+ghost use Rattle.station.specs.Returned.{Returned, Handed};
+ghost use Rattle.terms.specs.Setting.{settingOf};
 
 // An answer as its number and its value.
 fn tell(answer: Answer, value: &mut i64) -> u32
-    ensures { λ r. ⌜ Told answer r (now (value .exit)) ⌝ }
+    ensures { λ r. ⌜ Returned answer r (now (value .exit)) ⌝ }
 {
     *value = answer.value();
     answer.number()
@@ -23,7 +24,7 @@ pub extern "C" fn filz_open(
     beta2: u16,
     value: &mut i64,
 ) -> u32
-    ensures { λ r. ⌜ Left (openCall (now (ws .entry)) (settingOf k a beta1 beta2)) r (now (value .exit)) (now (ws .exit)) ⌝ }
+    ensures { λ r. ⌜ Handed (openCall (now (ws .entry)) (settingOf k a beta1 beta2)) r (now (value .exit)) (now (ws .exit)) ⌝ }
 {
     tell(ledger::open(ws, Setting { k, a, beta1, beta2 }), value)
 }
@@ -37,7 +38,7 @@ pub extern "C" fn filz_book(
     parents: &[u64],
     value: &mut i64,
 ) -> u32
-    ensures { λ r. ⌜ Left (bookCall (now (ws .entry)) name slot (now (parents .entry))) r (now (value .exit)) (now (ws .exit)) ⌝ }
+    ensures { λ r. ⌜ Handed (bookCall (now (ws .entry)) name slot (now (parents .entry))) r (now (value .exit)) (now (ws .exit)) ⌝ }
 {
     tell(ledger::book(ws, name, slot, parents), value)
 }
@@ -45,7 +46,7 @@ pub extern "C" fn filz_book(
 // A completed poll. Refusals 1, 2, 10, 11, 12, 13.
 #[no_mangle]
 pub extern "C" fn filz_poll(ws: &mut [u16], name: u64, votes: &[u8], value: &mut i64) -> u32
-    ensures { λ r. ⌜ Left (pollCall (now (ws .entry)) name (now (votes .entry))) r (now (value .exit)) (now (ws .exit)) ⌝ }
+    ensures { λ r. ⌜ Handed (pollCall (now (ws .entry)) name (now (votes .entry))) r (now (value .exit)) (now (ws .exit)) ⌝ }
 {
     tell(ledger::poll(ws, name, votes), value)
 }
@@ -53,7 +54,7 @@ pub extern "C" fn filz_poll(ws: &mut [u16], name: u64, votes: &[u8], value: &mut
 // 1 if the whole ancestry is preferred, else 0. Refusals 1, 2, 10, as for every reading below.
 #[no_mangle]
 pub extern "C" fn filz_query(ws: &[u16], name: u64, value: &mut i64) -> u32
-    ensures { λ r. ⌜ Told (queryCall (now (ws .entry)) name) r (now (value .exit)) ⌝ }
+    ensures { λ r. ⌜ Returned (queryCall (now (ws .entry)) name) r (now (value .exit)) ⌝ }
 {
     tell(ledger::query(ws, name), value)
 }
@@ -61,7 +62,7 @@ pub extern "C" fn filz_query(ws: &[u16], name: u64, value: &mut i64) -> u32
 // 1 if the booking is accepted, else 0.
 #[no_mangle]
 pub extern "C" fn filz_accepted(ws: &[u16], name: u64, value: &mut i64) -> u32
-    ensures { λ r. ⌜ Told (acceptedCall (now (ws .entry)) name) r (now (value .exit)) ⌝ }
+    ensures { λ r. ⌜ Returned (acceptedCall (now (ws .entry)) name) r (now (value .exit)) ⌝ }
 {
     tell(ledger::accepted(ws, name), value)
 }
@@ -69,7 +70,7 @@ pub extern "C" fn filz_accepted(ws: &[u16], name: u64, value: &mut i64) -> u32
 // The confidence, less the greatest among the slot's other bookings.
 #[no_mangle]
 pub extern "C" fn filz_lead(ws: &[u16], name: u64, value: &mut i64) -> u32
-    ensures { λ r. ⌜ Told (leadCall (now (ws .entry)) name) r (now (value .exit)) ⌝ }
+    ensures { λ r. ⌜ Returned (leadCall (now (ws .entry)) name) r (now (value .exit)) ⌝ }
 {
     tell(ledger::lead(ws, name), value)
 }
@@ -77,7 +78,7 @@ pub extern "C" fn filz_lead(ws: &[u16], name: u64, value: &mut i64) -> u32
 // The confidence itself.
 #[no_mangle]
 pub extern "C" fn filz_confidence(ws: &[u16], name: u64, value: &mut i64) -> u32
-    ensures { λ r. ⌜ Told (confidenceCall (now (ws .entry)) name) r (now (value .exit)) ⌝ }
+    ensures { λ r. ⌜ Returned (confidenceCall (now (ws .entry)) name) r (now (value .exit)) ⌝ }
 {
     tell(ledger::confidence(ws, name), value)
 }
@@ -85,7 +86,7 @@ pub extern "C" fn filz_confidence(ws: &[u16], name: u64, value: &mut i64) -> u32
 // How many members the ancestry has.
 #[no_mangle]
 pub extern "C" fn filz_size(ws: &[u16], name: u64, value: &mut i64) -> u32
-    ensures { λ r. ⌜ Told (sizeCall (now (ws .entry)) name) r (now (value .exit)) ⌝ }
+    ensures { λ r. ⌜ Returned (sizeCall (now (ws .entry)) name) r (now (value .exit)) ⌝ }
 {
     tell(ledger::size(ws, name), value)
 }

@@ -1,8 +1,12 @@
 -- Document 01, "Numbers that bound it": when a setting is good, and the paper's own.
-use Prim.Native.Nat.{_*_, _≤_, _<_}
+use Prim.Native.Nat.{ℕ, _*_, _≤_, _<_}
 use mathlib.Core.Bool.{Bool, _&&_}
 use lib.Dec.{ltb, leb}
 use Rattle.terms.specs.declared.setting.Setting.{Setting}
+
+-- the setting that four numbers are
+abbrev pub settingOf : (k a beta1 beta2 : ℕ) → Setting
+settingOf k a beta1 beta2 = record { k = k; a = a; beta1 = beta1; beta2 = beta2 }
 
 -- 1 ≤ k ≤ 64, a ≤ k, 2 × a > k, 1 ≤ β1 ≤ β2 ≤ 510
 pub record Good (s : Setting) : Type 0 where
@@ -21,4 +25,4 @@ isGood s =
 
 -- k = 10, a = 8, β1 = 11, β2 = 150
 abbrev pub paperSetting : Setting
-paperSetting = record { k = 10; a = 8; beta1 = 11; beta2 = 150 }
+paperSetting = settingOf 10 8 11 150

@@ -9,11 +9,11 @@ use lib.ListN.{length, getD, drop, length-append, drop-of-length-le}
 use lib.Seq.{drop-cons}
 use borrow.Author.Tests.{lt-ltb, le-ltb}
 use Rattle.text_put.specs.Put.{Put}
-use Rattle.text_print.specs.Columns.{field, fieldMost, endOf, endAt, rowPrints}
+use Rattle.text_print.specs.Columns.{fieldPrints, fieldMost, endOf, endAt, rowPrints}
 use Rattle.text_put.proofs.Puts.{put-then, put-none}
 use Rattle.text_put.proofs.Decimals.{decimal-length}
 
-pub field-length : (v after : ℕ) → v < 2 ^ 64 → length (field v after) ≤ fieldMost
+pub field-length : (v after : ℕ) → v < 2 ^ 64 → length (fieldPrints v after) ≤ fieldMost
 field-length v after h = rw length-append (omega (arith, decimal-length v h))
 
 -- ---- rows
@@ -27,9 +27,9 @@ endOf-drop fields j = go (decLt (j + 1) (length fields))
     go (no h) = rw (drop-of-length-le fields {i = suc j} (omega arith), le-ltb (j + 1) (length fields) (omega arith))
 
 rowPrints-more : (fields : List ℕ) (j : ℕ) → j < length fields
-    → rowPrints (drop j fields) ≡ field (getD fields j 0) (endAt j (length fields)) ++ rowPrints (drop (j + 1) fields)
+    → rowPrints (drop j fields) ≡ fieldPrints (getD fields j 0) (endAt j (length fields)) ++ rowPrints (drop (j + 1) fields)
 unfolding rowPrints
-rowPrints-more fields j h = rw (drop-cons fields j 0 h, endOf-drop) (ap (λ i. field (getD fields j 0) (endAt j (length fields)) ++ rowPrints (drop i fields)) (sym (add-one j)))
+rowPrints-more fields j h = rw (drop-cons fields j 0 h, endOf-drop) (ap (λ i. fieldPrints (getD fields j 0) (endAt j (length fields)) ++ rowPrints (drop i fields)) (sym (add-one j)))
 
 -- ---- the loop over the fields
 
@@ -42,7 +42,7 @@ row-start out at fields = record { rest = λ r o p. p }
 
 module _ {out₀ : List ℕ} {at : ℕ} {fields out : List ℕ} {next j : ℕ} (left : RowLeft out₀ at fields out next j) where
   pub row-more : {out′ : List ℕ} {next′ : ℕ} → j < length fields
-      → Put out next (field (getD fields j 0) (endAt j (length fields))) next′ out′ → RowLeft out₀ at fields out′ next′ (j + 1)
+      → Put out next (fieldPrints (getD fields j 0) (endAt j (length fields))) next′ out′ → RowLeft out₀ at fields out′ next′ (j + 1)
   row-more h p = record { rest = λ r o q. left .rest r o (rw (rowPrints-more fields j h) (put-then p q)) }
 
   pub row-over : length fields ≤ j → Put out₀ at (rowPrints fields) next out

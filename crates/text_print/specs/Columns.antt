@@ -12,8 +12,8 @@ listHeader = bytes "number slot state confidence preferred accepted\n"
 -- ---- rows
 
 -- a number and the byte after it
-abbrev pub field : ℕ → ℕ → List ℕ
-field v after = decimal v ++ (after ∷ [])
+abbrev pub fieldPrints : ℕ → ℕ → List ℕ
+fieldPrints v after = decimal v ++ (after ∷ [])
 
 -- what follows a field: a line feed after the last, one space after any other
 abbrev pub endOf : List ℕ → ℕ
@@ -26,7 +26,7 @@ endAt j n = cond (ltb (j + 1) n) space lineFeed
 
 unfoldable pub rowPrints : List ℕ → List ℕ
 rowPrints [] = []
-rowPrints (v ∷ vs) = field v (endOf vs) ++ rowPrints vs
+rowPrints (v ∷ vs) = fieldPrints v (endOf vs) ++ rowPrints vs
 
 -- how many bytes a field takes at most: twenty digits and what follows them
 abbrev pub fieldMost : ℕ

@@ -8,7 +8,7 @@ ghost use lib.ListN.{length};
 ghost use Rattle.text_put.specs.Put.{Put, Room};
 ghost use Rattle.text_print.specs.Columns.{
   endAt,
-  field,
+  fieldPrints,
   fieldMost,
   listHeader,
   rowPrints,
@@ -37,7 +37,7 @@ fn end_of(j: usize, n: usize) -> u8
 // A number and the byte after it.
 fn put_field(out: &mut [u8], at: usize, v: u64, after: u8) -> usize
     requires { ⌜ at + fieldMost ≤ length (now out) ⌝ }
-    ensures { λ r. ⌜ Put (now (out .entry)) at (field v after) r (now (out .exit)) ⌝ }
+    ensures { λ r. ⌜ Put (now (out .entry)) at (fieldPrints v after) r (now (out .exit)) ⌝ }
 {
     let end = put_number(out, at, v);
     out[end] = after;

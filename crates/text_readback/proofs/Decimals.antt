@@ -14,11 +14,11 @@ use Rattle.text_bytes.specs.Bytes.{digit}
 use Rattle.text_put.specs.Decimal.{decimal}
 use Rattle.text_put.proofs.Decimals.{decimal-low, decimal-high, decimal-length}
 use Rattle.line_number.specs.declared.Number.the-variants.{Value}
-use Rattle.line_number.specs.Numbers.{digitsMost, isDigit, valueOf, isNumber, numberOf}
+use Rattle.line_number.specs.Numbers.{digitsMost, isDigit, valueOf, isNumber, numberRead}
 use Rattle.line_number.proofs.Digits.{valueOf-zero, valueOf-more}
 
 -- a word of digits, not empty, and its value
-record Reads (word : List ℕ) (n : ℕ) : Type 0 where
+record ReadsBack (word : List ℕ) (n : ℕ) : Type 0 where
   some : 1 ≤ length word
   digits : (i : ℕ) → i < length word → isDigit (getD word i 0) ≡ true
   value : valueOf word (length word) ≡ n
@@ -33,14 +33,14 @@ valueOf-before word more (suc k) h =
     rw (← add-one k, valueOf-more (word ++ more) k, valueOf-more word k, valueOf-before word more k (omega arith), List·getD-append word more 0 k (omega arith))
 
 module _ (word : List ℕ) (d : ℕ) (h : d < 10) where
-  last-digit : (i : ℕ) → Reads word i → (j : ℕ) → j < length word + 1 → isDigit (getD (word ++ digit d ∷ []) j 0) ≡ true
+  last-digit : (i : ℕ) → ReadsBack word i → (j : ℕ) → j < length word + 1 → isDigit (getD (word ++ digit d ∷ []) j 0) ≡ true
   last-digit i r j l = go (decLt j (length word))
     where
       go : Dec (j < length word) → isDigit (getD (word ++ digit d ∷ []) j 0) ≡ true
       go (yes b) = rw (List·getD-append word (digit d ∷ []) 0 j b) (r .digits j b)
       go (no b) = let e : j ≡ length word = omega arith in rw (e, getD-append-seam word (digit d) [] 0) (digit-isDigit d h)
 
-  reads-more : (m : ℕ) → Reads word m → Reads (word ++ digit d ∷ []) (m * 10 + d)
+  reads-more : (m : ℕ) → ReadsBack word m → ReadsBack (word ++ digit d ∷ []) (m * 10 + d)
   reads-more m r =
       let n : length (word ++ digit d ∷ []) ≡ length word + 1 = length-append word (digit d ∷ []) in
       record {
@@ -51,7 +51,7 @@ module _ (word : List ℕ) (d : ℕ) (h : d < 10) where
             ∙ rw (valueOf-before word (digit d ∷ []) (length word) (omega arith), getD-append-seam word (digit d) [] 0, r .value) (omega arith);
       }
 
-reads-none : (d : ℕ) → d < 10 → Reads (digit d ∷ []) d
+reads-none : (d : ℕ) → d < 10 → ReadsBack (digit d ∷ []) d
 reads-none d h =
     record {
       some = omega arith;
@@ -60,19 +60,19 @@ reads-none d h =
     }
 
 -- f bounds how often a tenth is taken
-decimal-reads : (f n : ℕ) → n ≤ f → Reads (decimal n) n
+decimal-reads : (f n : ℕ) → n ≤ f → ReadsBack (decimal n) n
 decimal-reads zero n h = rw (decimal-low n (omega arith)) (reads-none n (omega arith))
 decimal-reads (suc f) n h = go (decLt n 10) (λ (l : 10 ≤ n). decimal-reads f (n / 10) (omega arith))
   where
-    go : Dec (n < 10) → (10 ≤ n → Reads (decimal (n / 10)) (n / 10)) → Reads (decimal n) n
+    go : Dec (n < 10) → (10 ≤ n → ReadsBack (decimal (n / 10)) (n / 10)) → ReadsBack (decimal n) n
     go (yes l) tenth = rw (decimal-low n l) (reads-none n l)
     go (no l) tenth =
         let e : n / 10 * 10 + n % 10 ≡ n = omega arith in
         rw (decimal-high n (omega arith)) (rw e at (reads-more (decimal (n / 10)) (n % 10) (omega arith) (n / 10) (tenth (omega arith))))
 
 -- a number printed reads back the same, wherever it is within the limit
-pub decimal-read : (most n : ℕ) → n ≤ most → n < 2 ^ 64 → numberOf most (decimal n) ≡ Value n
-unfolding numberOf isNumber
+pub decimal-read : (most n : ℕ) → n ≤ most → n < 2 ^ 64 → numberRead most (decimal n) ≡ Value n
+unfolding numberRead isNumber
 decimal-read most n h w =
     let r = decimal-reads n n (omega arith) in
     let all-digits = →all (λ i. isDigit (getD (decimal n) i 0)) (length (decimal n)) (r .digits) in

@@ -14,8 +14,8 @@ sets-snoc [] w b a = rw add-zero
 sets-snoc (v ∷ vs) w b a = rw (add-suc, ← suc-add) (sets-snoc vs (set w b v) (suc b) a)
 
 -- one word more of the row, as a loop that counts has it
-pub sets-more : (w row : List ℕ) (b f k : ℕ) → f < length row → k ≡ b + f → set (sets w b (take f row)) k (getD row f 0) ≡ sets w b (take (f + 1) row)
-sets-more w row b f k h q =
+pub sets-one-more : (w row : List ℕ) (b f k : ℕ) → f < length row → k ≡ b + f → set (sets w b (take f row)) k (getD row f 0) ≡ sets w b (take (f + 1) row)
+sets-one-more w row b f k h q =
     let e : length (take f row) ≡ f = length-take-le f row (omega arith) in
     rw (q, add-one, take-suc row f 0 h, sets-snoc, e)
 

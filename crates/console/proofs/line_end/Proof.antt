@@ -1,5 +1,4 @@
 -- No byte passed is a line feed; the first that is one ends the line, or the input does.
-use mathlib.Core.Path.{_≡_}
 use mathlib.Core.Logic.{_≢_}
 use Prim.Native.Nat.{ℕ, _-_, _≤_, _<_}
 use native.Mathlib.Omega.{arith}

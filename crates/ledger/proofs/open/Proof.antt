@@ -1,5 +1,4 @@
 -- The two refusals in their order, and what a taken opening writes.
-use mathlib.Core.Path.{sym}
 use borrow.Author.Needs.{needs}
 use borrow.Author.Tests.{eq-eqb, ne-eqb}
 use Rattle.rules.specs.Calls.{openCall}

@@ -1,7 +1,6 @@
 -- A workspace that stops the call has no reading; one that is a ledger is asked.
-use mathlib.Core.Path.{sym, ap, _∙_}
+use mathlib.Core.Path.{sym, _∙_}
 use borrow.Author.Needs.{needs}
-use Rattle.rules.specs.Calls.{askedOf}
 use Rattle.rule_laws.proofs.Tested.{fine-ledger, stop-tested}
 use Rattle.ledger_reads.proofs.read.Statement.{statement}
 use Rattle.ledger_reads.proofs.read.Tie as tie

@@ -2,7 +2,7 @@
 use mathlib.Core.Path.{sym, _∙_}
 use borrow.Author.Tests.{ne-eqb}
 use Rattle.line_number.specs.declared.Number.the-variants.{Value, Bad}
-use Rattle.line_number.specs.Numbers.{voteOf}
+use Rattle.line_number.specs.Numbers.{voteRead}
 use Rattle.line_number.proofs.Digits.{vote-none, vote-minus}
 use borrow.Author.Needs.{needs}
 use Rattle.line_number.proofs.read_vote.Statement.{statement}
@@ -52,7 +52,7 @@ read-number-requires-2 : tie.Need-read-number-requires-2
 read-number-requires-2 c κs = search needs
 
 not-below : tie.Need-returns-4
-unfolding voteOf
+unfolding voteRead
 not-below c = rw (ne-eqb _ _ (c .before .if2 .left)) (c .read-number2 .ensures)
 
 pub read-vote-spec : {M : Type 1} → statement M

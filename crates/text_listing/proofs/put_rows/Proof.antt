@@ -1,12 +1,12 @@
 -- What is written so far is the rows so far; a row is short enough that the next one has room.
 use mathlib.Core.Path.{_≡_, refl}
-use Prim.Native.Nat.{_+_, _*_, _-_, _≤_}
+use Prim.Native.Nat.{_-_, _≤_}
 use lib.ListN.{length}
 use native.Mathlib.Omega.{arith}
 use borrow.Author.Needs.{needs}
 use Rattle.rules.specs.Layout.{bookings}
 use Rattle.text_put.specs.Put.{Put}
-use Rattle.text_listing.specs.Listed.{rowsPrint, rowMost}
+use Rattle.text_listing.specs.Listed.{rowsPrint}
 use Rattle.text_listing.proofs.Rows.{put-length, rows-length, rows-none, rows-more}
 use Rattle.text_listing.proofs.put_rows.Statement.{statement}
 use Rattle.text_listing.proofs.put_rows.Tie as tie

@@ -5,7 +5,7 @@ use Rattle.line_parse.specs.declared.command.Command.the-variants.{Open}
 use Rattle.line_words.specs.Words.{wordsAfter}
 use Rattle.line_number.specs.Numbers.{shortMost}
 use Rattle.line_scan.specs.Lists.{openMost}
-use Rattle.line_parse.specs.Line.{settingOf, openSays}
+use Rattle.line_parse.specs.Line.{settingTyped, openSays}
 use Rattle.line_scan.proofs.Leading.{leading-le, listed-whole}
 use borrow.Author.Needs.{needs}
 use Rattle.line_parse.proofs.line.read_open.Statement.{statement}
@@ -47,7 +47,7 @@ opens c =
     let K = T .before .before in
     let R = K .before .before .before in
     let whole = listed-whole (R .read-numbers .ensures) _ (K .count .given .1) refl (T .if1 .left) in
-    rw (sym (R .read-numbers .ensures .many) ∙ K .count .given .1, le-ltb _ openMost (T .if1 .left)) (ap Open (c .setting-of .ensures ∙ ap settingOf whole))
+    rw (sym (R .read-numbers .ensures .many) ∙ K .count .given .1, le-ltb _ openMost (T .if1 .left)) (ap Open (c .setting-of .ensures ∙ ap settingTyped whole))
 
 pub read-open-spec : {M : Type 1} → statement M
 read-open-spec =

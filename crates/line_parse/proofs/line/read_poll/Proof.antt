@@ -3,7 +3,7 @@ use mathlib.Core.Path.{_≡_, sym, _∙_}
 use Rattle.line_parse.specs.declared.command.Command.the-variants.{Bad}
 use Rattle.line_scan.specs.declared.many.Many.the-variants.{Count, Refused}
 use Rattle.line_words.specs.Words.{wordsAfter}
-use Rattle.line_number.specs.Numbers.{nameOf}
+use Rattle.line_number.specs.Numbers.{nameRead}
 use Rattle.line_parse.specs.Line.{alone, pollWords, pollSays}
 use Rattle.line_parse.proofs.Grammar.{stepped, number-next, number-stop, polled-bad, polled-listed}
 use borrow.Author.Needs.{needs}
@@ -24,12 +24,12 @@ unfolding pollSays
 no-name c =
     let N = c .before .before in
     let S = N .before .before .before .args in
-    polled-bad (S .votes .now) (number-stop nameOf (S .line .now) (S .at) (alone Bad) _ (sym (N .next-number .ensures) ∙ c .enum-told .given .1))
+    polled-bad (S .votes .now) (number-stop nameRead (S .line .now) (S .at) (alone Bad) _ (sym (N .next-number .ensures) ∙ c .enum-told .given .1))
 
 read-votes-requires : tie.Need-read-votes-requires
 read-votes-requires c κs =
     let K = c .before .before in
-    stepped nameOf _ _ _ _ (sym (K .before .before .next-number .ensures) ∙ K .name .given .1) .within
+    stepped nameRead _ _ _ _ (sym (K .before .before .next-number .ensures) ∙ K .name .given .1) .within
 
 enum-known-count : tie.Need-enum-known-count
 enum-known-count c = search needs
@@ -47,7 +47,7 @@ module _ (R : tie.After-read-votes) where
 
   says : pollSays (wordsAfter (S .args .line .now) (S .args .at)) ≡ pollWords (K .name .given .0 .0) (wordsAfter (S .args .line .now) (K .name .given .0 .1 .0))
   unfolding pollSays
-  says = number-next nameOf _ _ (alone Bad) _ _ _ (sym (K .before .before .next-number .ensures) ∙ K .name .given .1)
+  says = number-next nameRead _ _ (alone Bad) _ _ _ (sym (K .before .before .next-number .ensures) ∙ K .name .given .1)
 
 same-length : tie.Need-same-length
 same-length c = search needs

@@ -1,7 +1,7 @@
 -- A name and nothing after it, or the line is bad.
 use mathlib.Core.Path.{sym, _∙_}
 use Rattle.line_parse.specs.declared.command.Command.the-variants.{Bad}
-use Rattle.line_number.specs.Numbers.{nameOf}
+use Rattle.line_number.specs.Numbers.{nameRead}
 use Rattle.line_parse.specs.Line.{readSays}
 use Rattle.line_parse.proofs.Grammar.{number-next, number-stop, nothing-end, nothing-more}
 use borrow.Author.Needs.{needs}
@@ -22,7 +22,7 @@ unfolding readSays
 no-name c =
     let N = c .before .before in
     let a = N .before .before .args in
-    sym (number-stop nameOf (a .line .now) (a .at) Bad _ (sym (N .next-number .ensures) ∙ c .enum-told .given .1))
+    sym (number-stop nameRead (a .line .now) (a .at) Bad _ (sym (N .next-number .ensures) ∙ c .enum-told .given .1))
 
 more-words : tie.Need-returns-2
 unfolding readSays
@@ -30,7 +30,7 @@ more-words c =
     let K = c .before .before in
     let N = K .before .before in
     let a = N .before .before .args in
-    sym (number-next nameOf (a .line .now) (a .at) Bad _ _ _ (sym (N .next-number .ensures) ∙ K .name .given .1) ∙ nothing-more (a .line .now) _ Bad _ (c .if1 .taken))
+    sym (number-next nameRead (a .line .now) (a .at) Bad _ _ _ (sym (N .next-number .ensures) ∙ K .name .given .1) ∙ nothing-more (a .line .now) _ Bad _ (c .if1 .taken))
 
 named : tie.Need-returns-3
 unfolding readSays
@@ -38,7 +38,7 @@ named c =
     let K = c .before .before in
     let N = K .before .before in
     let a = N .before .before .args in
-    sym (number-next nameOf (a .line .now) (a .at) Bad _ _ _ (sym (N .next-number .ensures) ∙ K .name .given .1) ∙ nothing-end (a .line .now) _ Bad _ (c .if1 .left))
+    sym (number-next nameRead (a .line .now) (a .at) Bad _ _ _ (sym (N .next-number .ensures) ∙ K .name .given .1) ∙ nothing-end (a .line .now) _ Bad _ (c .if1 .left))
 
 pub read-reading-spec : {M : Type 1} → statement M
 read-reading-spec =

@@ -5,7 +5,7 @@ use lib.ListN.{length, length-set}
 use native.Mathlib.Omega.{arith}
 use borrow.Author.Needs.{needs}
 use Rattle.line_words.specs.Words.{wordsAfter}
-use Rattle.line_number.specs.Numbers.{numberOf}
+use Rattle.line_number.specs.Numbers.{numberRead}
 use Rattle.line_scan.proofs.Walk.{step-next}
 use Rattle.line_scan.proofs.Leading.{Left, left-start, at-over, at-full, at-refused, at-more}
 use Rattle.line_scan.proofs.many.read_numbers.Statement.{statement}
@@ -13,7 +13,7 @@ use Rattle.line_scan.proofs.many.read_numbers.Tie as tie
 
 abbrev Inv-loop : tie.InvT-loop
 Inv-loop line start most numbers₀ at₀ count₀ numbers at count =
-    (at ≤ length line) × (length numbers ≡ length numbers₀) × Left (numberOf most) (length numbers₀) (wordsAfter line start) numbers₀ count (wordsAfter line at) numbers
+    (at ≤ length line) × (length numbers ≡ length numbers₀) × Left (numberRead most) (length numbers₀) (wordsAfter line start) numbers₀ count (wordsAfter line at) numbers
 
 abbrev μ-loop : tie.MeasureT-loop
 μ-loop line start most numbers₀ at₀ count₀ numbers at count = length line - at
@@ -63,7 +63,7 @@ loop-less c =
     let N = c .before .before .before in
     let L = N .before .before .before in
     let S = L .before .before .before .args in
-    let n = step-next (numberOf (S .most)) (S .line .now) (L .loop .at) _ _ (omega arith) (sym (N .next-number .ensures) ∙ c .before .value .given .1) in
+    let n = step-next (numberRead (S .most)) (S .line .now) (L .loop .at) _ _ (omega arith) (sym (N .next-number .ensures) ∙ c .before .value .given .1) in
     omega (arith, n .further, n .within)
 
 loop-again : tie.Need-loop-again Inv-loop μ-loop
@@ -71,7 +71,7 @@ loop-again c =
     let N = c .before .before .before in
     let L = N .before .before .before in
     let S = L .before .before .before .args in
-    let n = step-next (numberOf (S .most)) (S .line .now) (L .loop .at) _ _ (omega arith) (sym (N .next-number .ensures) ∙ c .before .value .given .1) in (
+    let n = step-next (numberRead (S .most)) (S .line .now) (L .loop .at) _ _ (omega arith) (sym (N .next-number .ensures) ∙ c .before .value .given .1) in (
       n .within,
       simp length-set (L .loop .inv .1),
       at-more (S .line .now) (L .loop .at) (L .loop .inv .2) (omega arith) (omega arith) _ _ (sym (N .next-number .ensures) ∙ c .before .value .given .1),

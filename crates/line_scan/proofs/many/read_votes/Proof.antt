@@ -5,7 +5,7 @@ use lib.ListN.{length, length-set}
 use native.Mathlib.Omega.{arith}
 use borrow.Author.Needs.{needs}
 use Rattle.line_words.specs.Words.{wordsAfter}
-use Rattle.line_number.specs.Numbers.{voteOf}
+use Rattle.line_number.specs.Numbers.{voteRead}
 use Rattle.line_number.proofs.Digits.{vote-lt}
 use Rattle.line_scan.proofs.Walk.{step-next}
 use Rattle.line_scan.proofs.Leading.{Left, left-start, at-over, at-full, at-refused, at-more}
@@ -14,7 +14,7 @@ use Rattle.line_scan.proofs.many.read_votes.Tie as tie
 
 abbrev Inv-loop : tie.InvT-loop
 Inv-loop line start votes₀ at₀ count₀ votes at count =
-    (at ≤ length line) × (length votes ≡ length votes₀) × Left voteOf (length votes₀) (wordsAfter line start) votes₀ count (wordsAfter line at) votes
+    (at ≤ length line) × (length votes ≡ length votes₀) × Left voteRead (length votes₀) (wordsAfter line start) votes₀ count (wordsAfter line at) votes
 
 abbrev μ-loop : tie.MeasureT-loop
 μ-loop line start votes₀ at₀ count₀ votes at count = length line - at
@@ -55,7 +55,7 @@ cast-votes c =
     let N = c .before .before .before in
     let L = N .before .before .before in
     let S = L .before .before .before .args in
-    let n = step-next voteOf (S .line .now) (L .loop .at) _ _ (omega arith) (sym (N .next-vote .ensures) ∙ c .before .value .given .1) in
+    let n = step-next voteRead (S .line .now) (L .loop .at) _ _ (omega arith) (sym (N .next-vote .ensures) ∙ c .before .value .given .1) in
     omega (arith, vote-lt _ _ (n .value))
 
 slice-write-votes : tie.Need-slice-write-votes Inv-loop μ-loop
@@ -69,7 +69,7 @@ loop-less c =
     let N = c .before .before .before in
     let L = N .before .before .before in
     let S = L .before .before .before .args in
-    let n = step-next voteOf (S .line .now) (L .loop .at) _ _ (omega arith) (sym (N .next-vote .ensures) ∙ c .before .value .given .1) in
+    let n = step-next voteRead (S .line .now) (L .loop .at) _ _ (omega arith) (sym (N .next-vote .ensures) ∙ c .before .value .given .1) in
     omega (arith, n .further, n .within)
 
 loop-again : tie.Need-loop-again Inv-loop μ-loop
@@ -77,7 +77,7 @@ loop-again c =
     let N = c .before .before .before in
     let L = N .before .before .before in
     let S = L .before .before .before .args in
-    let n = step-next voteOf (S .line .now) (L .loop .at) _ _ (omega arith) (sym (N .next-vote .ensures) ∙ c .before .value .given .1) in (
+    let n = step-next voteRead (S .line .now) (L .loop .at) _ _ (omega arith) (sym (N .next-vote .ensures) ∙ c .before .value .given .1) in (
       n .within,
       simp length-set (L .loop .inv .1),
       at-more (S .line .now) (L .loop .at) (L .loop .inv .2) (omega arith) (omega arith) _ _ (sym (N .next-vote .ensures) ∙ c .before .value .given .1),

@@ -1,14 +1,14 @@
 -- Past the end there is no word; any other is the part of the line up to where it ends.
 use mathlib.Core.Path.{sym, _∙_}
 use Rattle.line_number.specs.declared.Number.the-variants.{Value, Bad}
-use Rattle.line_number.specs.Numbers.{numberOf}
+use Rattle.line_number.specs.Numbers.{numberRead}
 use Rattle.line_scan.proofs.Walk.{step-none, step-made}
 use borrow.Author.Needs.{needs}
 use Rattle.line_scan.proofs.step.next_number.Statement.{statement}
 use Rattle.line_scan.proofs.step.next_number.Tie as tie
 
 no-word : tie.Need-returns
-no-word c = let S = c .before .before in sym (step-none (numberOf (S .args .most)) (S .args .line .now) (S .args .at) (c .if1 .taken))
+no-word c = let S = c .before .before in sym (step-none (numberRead (S .args .most)) (S .args .line .now) (S .args .at) (c .if1 .taken))
 
 add-start : tie.Need-add-start
 add-start c = search needs
@@ -39,7 +39,7 @@ stopped c =
     let R = c .before .before in
     let E = R .before .before in
     let S = E .before .before .before in
-    step-made (numberOf (S .args .most)) (S .args .line .now) (S .args .at) Bad _ (E .before .if1 .left) (E .end-after .ensures .0) (sym (c .enum-told .given .1) ∙ R .read-number .ensures)
+    step-made (numberRead (S .args .most)) (S .args .line .now) (S .args .at) Bad _ (E .before .if1 .left) (E .end-after .ensures .0) (sym (c .enum-told .given .1) ∙ R .read-number .ensures)
 
 stepped : tie.Need-returns-3
 stepped c =
@@ -47,7 +47,7 @@ stepped c =
     let R = K .before .before in
     let E = R .before .before in
     let S = E .before .before .before in
-    step-made (numberOf (S .args .most)) (S .args .line .now) (S .args .at) (Value _) _ (E .before .if1 .left) (E .end-after .ensures .0) (sym (K .value .given .1) ∙ R .read-number .ensures)
+    step-made (numberRead (S .args .most)) (S .args .line .now) (S .args .at) (Value _) _ (E .before .if1 .left) (E .end-after .ensures .0) (sym (K .value .given .1) ∙ R .read-number .ensures)
 
 pub next-number-spec : {M : Type 1} → statement M
 next-number-spec =

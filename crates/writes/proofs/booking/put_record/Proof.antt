@@ -6,7 +6,7 @@ use lib.Seq.{sets, take-all}
 use native.Mathlib.Omega.{arith}
 use borrow.Author.Needs.{needs}
 use Rattle.rules.specs.Layout.{size, recordWords, recordAt}
-use Rattle.writes.proofs.Rows.{sets-more}
+use Rattle.writes.proofs.Rows.{sets-one-more}
 use Rattle.writes.proofs.booking.put_record.Statement.{statement}
 use Rattle.writes.proofs.booking.put_record.Tie as tie
 
@@ -40,7 +40,7 @@ loop-again c =
     let S = L .before .before .before in (
       omega arith,
       omega (arith, c .before .before .set-field .kept .0),
-      c .before .before .set-field .ensures ∙ rw (L .loop .inv .2) (sets-more (S .args .w .now) (S .args .row .now) _ (L .loop .f) _ (omega arith) (omega arith)),
+      c .before .before .set-field .ensures ∙ rw (L .loop .inv .2) (sets-one-more (S .args .w .now) (S .args .row .now) _ (L .loop .f) _ (omega arith) (omega arith)),
     )
 
 same-length : tie.Need-same-length Inv-loop μ-loop

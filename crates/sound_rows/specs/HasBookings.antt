@@ -6,7 +6,7 @@ use lib.ListN.{length}
 use Rattle.rules.specs.Layout.{size, mostBookings, bookings}
 
 -- w is a whole workspace, and n is how many bookings it has: no more than there are records
-pub record Counted (w : List ℕ) (n : ℕ) : Type 0 where
+pub record HasBookings (w : List ℕ) (n : ℕ) : Type 0 where
   pub whole : length w ≡ size
   pub counts : n ≡ bookings w
   pub fits : n ≤ mostBookings
