@@ -64,12 +64,12 @@ extern "C" {
 #define FILZ_RECORD_PARENTS 5 /* four words, numbers in the order given, then FILZ_NONE */
 #define FILZ_RECORD_STATE 9   /* 0 waiting for its poll, 1 polled without a chit, 2 has a chit */
 #define FILZ_RECORD_CONFIDENCE 10
-#define FILZ_RECORD_ORDINAL 11 /* which poll it was, from 1; 0 before it */
+#define FILZ_RECORD_ORDINAL 11 /* which poll was its own, from 1; 0 while it waits, and for the genesis */
 
 /* Words of a slot entry. */
 #define FILZ_SLOT_PREFERRED 0 /* the number of the booking that this station stands for */
-#define FILZ_SLOT_LAST 1      /* the number of the booking that a successful poll raised last */
-#define FILZ_SLOT_COUNTER 2   /* how often it was raised again since it became last */
+#define FILZ_SLOT_LAST 1      /* the number of the booking that a successful poll raised last; before any did, the slot's first */
+#define FILZ_SLOT_COUNTER 2   /* how often it was raised since; the raise by which it became last is not counted */
 #define FILZ_SLOT_BOOKINGS 3  /* how many bookings the slot has */
 
 /* Votes. Every byte from 2 to 254 is refused. */

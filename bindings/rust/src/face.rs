@@ -45,8 +45,8 @@ fn ask(call: impl FnOnce(*mut i64) -> u32) -> Result<i64, Refusal> {
     let mut value = 0;
     match call(&mut value) {
         0 => Ok(value),
-        // The library is proved to return no number above 13.
-        number => Err(Refusal::from_number(number).expect("a number from 0 to 13")),
+        // The library is proved to return 0 or the number of a refusal.
+        number => Err(Refusal::from_number(number).expect("the number of a refusal")),
     }
 }
 

@@ -52,7 +52,7 @@ impl Refusal {
         Refusal::BadVote,
     ];
 
-    /// The number from 1 to 13 by which the text program and C callers know it.
+    /// The number by which the text program and C callers know it.
     pub const fn number(self) -> u32 {
         self as u32
     }
