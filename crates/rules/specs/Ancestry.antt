@@ -1,5 +1,5 @@
 -- Document 01, "Ancestry": a booking's ancestry is itself and everything reached through parents, each member once.
--- `Reaches` is what people read, `ancestry` what computes; laws/proofs/Ancestry.antt shows that they agree on sound workspaces.
+-- `Reaches` is what people read, `ancestry` what computes; rule_laws/proofs/Ancestry.antt shows that they agree on sound workspaces.
 use Prim.Native.Nat.{ℕ, zero, suc, _<_}
 use mathlib.Core.Path.{_≡_}
 use mathlib.Core.Bool.{Bool, cond}

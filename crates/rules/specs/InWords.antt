@@ -1,5 +1,5 @@
 -- Document 01, "Readings", as people read them: what it is to be accepted, and what a rival is.
--- proofs/Accepted.antt and proofs/Readings.antt show that the definitions of Readings.antt say the same on sound workspaces.
+-- rule_laws/proofs/Accepted.antt and rule_laws/proofs/Readings.antt show that the definitions of Readings.antt say the same on sound workspaces.
 use mathlib.Core.Path.{_≡_}
 use mathlib.Core.Bool.{true}
 use mathlib.Core.List.{List}

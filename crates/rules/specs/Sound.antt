@@ -1,5 +1,5 @@
 -- Document 01, "A workspace is sound exactly if": a named field for each thing that must hold, in its order.
--- This is the form that people and promises read; proofs/Sound.antt shows that it says what the test of IsSound.antt says.
+-- This is the form that people and promises read; rule_laws/proofs/Sound.antt shows that it says what the test of IsSound.antt says.
 use Prim.Native.Nat.{ℕ, _+_, _≤_, _<_}
 use mathlib.Core.Path.{_≡_}
 use mathlib.Core.List.{List}
