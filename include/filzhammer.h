@@ -8,10 +8,10 @@
  * A refused call returns the number of its refusal, writes value 0, and leaves every word of the workspace as it was.
  *
  * What the caller owes, since no C function can test it:
- *  - every pointer leads to as many elements as the count beside it says, is aligned as its type asks, and is not null,
- *    even where the count is 0;
- *  - `value` leads to one int64_t, and what it leads to does not overlap the workspace, the parents or the votes;
- *    neither do the parents or the votes overlap the workspace;
+ *  - every pointer to words, parents or votes leads to as many elements as the count beside it says, and is aligned as its
+ *    type asks. Where the count is 0 nothing is read or written through it, and it may be NULL;
+ *  - `value` leads to one int64_t and is not NULL, and what it leads to does not overlap the workspace, the parents or the
+ *    votes; neither do the parents or the votes overlap the workspace;
  *  - while open, book or poll runs, no other thread uses the same workspace. Readings may run at the same time.
  */
 #ifndef FILZHAMMER_H

@@ -18,5 +18,4 @@ pub mod Failed
 pub mod Polled
 pub mod Run
 pub mod Kept
-pub mod OfCode
 pub mod Told

@@ -6,5 +6,4 @@ pub mod Refusals
 pub mod Confidence
 pub mod Lasting
 pub mod Ranges
-pub mod OfCode
 pub mod Told

@@ -1,0 +1,64 @@
+/*
+ * Nothing lent: where a count is 0 its pointer may be NULL. Each call is then refused as with any other pointer, has value
+ * 0 and changes no word. Prints nothing and ends with 0 if that is so.
+ */
+#include "filzhammer.h"
+
+#include <stdio.h>
+#include <string.h>
+
+static uint16_t ws[FILZ_WORDS];
+static uint16_t before[FILZ_WORDS];
+static int64_t value;
+
+/* How many calls did something else. */
+static int wrong;
+
+/* A call in this line of the program gave a number, which has to be the other one, with value 0 and the words as they were. */
+static void expect(int line, uint32_t found, enum filz_number number)
+{
+    if (found != (uint32_t)number || value != 0 || memcmp(ws, before, sizeof ws) != 0) {
+        fprintf(stderr, "line %d: number %u, value %lld\n", line, (unsigned)found, (long long)value);
+        wrong++;
+    }
+    value = 77;
+}
+
+int main(void)
+{
+    const uint64_t genesis[1] = {0};
+    const uint8_t yes[1] = {FILZ_YES};
+    uint16_t none[1] = {0};
+    if (filz_open(ws, FILZ_WORDS, 1, 1, 1, 2, &value) + filz_book(ws, FILZ_WORDS, 1, 7, genesis, 1, &value) != FILZ_TAKEN)
+        return 1;
+    memcpy(before, ws, sizeof ws);
+    value = 77;
+
+    /* no words */
+    expect(__LINE__, filz_open(NULL, 0, 1, 1, 1, 2, &value), FILZ_WRONG_LENGTH);
+    expect(__LINE__, filz_book(NULL, 0, 2, 7, genesis, 1, &value), FILZ_WRONG_LENGTH);
+    expect(__LINE__, filz_poll(NULL, 0, 1, yes, 1, &value), FILZ_WRONG_LENGTH);
+    expect(__LINE__, filz_query(NULL, 0, 1, &value), FILZ_WRONG_LENGTH);
+    expect(__LINE__, filz_accepted(NULL, 0, 1, &value), FILZ_WRONG_LENGTH);
+    expect(__LINE__, filz_lead(NULL, 0, 1, &value), FILZ_WRONG_LENGTH);
+    expect(__LINE__, filz_confidence(NULL, 0, 1, &value), FILZ_WRONG_LENGTH);
+    expect(__LINE__, filz_size(NULL, 0, 1, &value), FILZ_WRONG_LENGTH);
+
+    /* neither words nor parents nor votes */
+    expect(__LINE__, filz_book(NULL, 0, 2, 7, NULL, 0, &value), FILZ_WRONG_LENGTH);
+    expect(__LINE__, filz_poll(NULL, 0, 1, NULL, 0, &value), FILZ_WRONG_LENGTH);
+
+    /* no parents, no votes; and the same with a pointer */
+    expect(__LINE__, filz_book(ws, FILZ_WORDS, 2, 7, NULL, 0, &value), FILZ_BAD_PARENTS);
+    expect(__LINE__, filz_book(ws, FILZ_WORDS, 2, 7, genesis, 0, &value), FILZ_BAD_PARENTS);
+    expect(__LINE__, filz_poll(ws, FILZ_WORDS, 1, NULL, 0, &value), FILZ_WRONG_VOTES);
+    expect(__LINE__, filz_poll(ws, FILZ_WORDS, 1, yes, 0, &value), FILZ_WRONG_VOTES);
+    expect(__LINE__, filz_open(none, 0, 1, 1, 1, 2, &value), FILZ_WRONG_LENGTH);
+
+    /* an earlier refusal comes first */
+    expect(__LINE__, filz_book(ws, FILZ_WORDS, 1, 7, NULL, 0, &value), FILZ_NAME_TAKEN);
+    expect(__LINE__, filz_book(ws, FILZ_WORDS, 2, 0, NULL, 0, &value), FILZ_BAD_SLOT);
+    expect(__LINE__, filz_poll(ws, FILZ_WORDS, 9, NULL, 0, &value), FILZ_UNKNOWN_NAME);
+    expect(__LINE__, filz_poll(ws, FILZ_WORDS, 0, NULL, 0, &value), FILZ_NOT_WAITING);
+    return wrong != 0;
+}

@@ -1,0 +1,100 @@
+-- The public functions: the ledger's eight and the C face's eight. Each by its own contract, which src/lib.rt passes on, and by what its
+-- parameters mean.
+use Prim.Native.Nat.{ℕ}
+use mathlib.Core.List.{List}
+use lib.IntN.{ℤ}
+use denote.Ref.{now}
+use borrow.Fn.Kinds.{In, Out}
+use Rattle.terms.specs.declared.answer.Reading.the-variants.{Query, Accepted, Lead, Confidence, Size}
+use Rattle.terms.specs.declared.answer.Answer.{Answer}
+use Rattle.terms.specs.Answers.{number, value}
+use Rattle.promises.specs.Run.{Call, Open, Book, Poll, Ask}
+use Rattle.terms.specs.Setting.{settingOf}
+use Rattle.code_promises.specs.Contract.{contractOf, left}
+use Rattle.code_promises.specs.OfCode.{Done, Function}
+use Rattle.code_promises.proofs as code
+
+pub data Name : Type 0 where
+  by-open : Name
+  by-book : Name
+  by-poll : Name
+  by-query : Name
+  by-accepted : Name
+  by-lead : Name
+  by-confidence : Name
+  by-size : Name
+  by-filz-open : Name
+  by-filz-book : Name
+  by-filz-poll : Name
+  by-filz-query : Name
+  by-filz-accepted : Name
+  by-filz-lead : Name
+  by-filz-confidence : Name
+  by-filz-size : Name
+
+-- ---- the ledger's functions return an answer
+
+abbrev answered : Call → (before : List ℕ) → Answer → (after : List ℕ) → Done
+answered c before r after = record { call = c; before = before; number = number r; value = value r; after = after }
+
+-- a reading takes the words and a name
+abbrev reading : In 1 code.query.Kinds.ps → Out 1 code.query.Kinds.ps code.query.Kinds.r → (ℕ → Call) → Function
+reading Asked Learnt call = record {
+  contract = contractOf 1 code.query.Kinds.ps code.query.Kinds.r Asked Learnt;
+  done = λ m. answered (call (m .given .1 .0)) (now (m .given .0)) (m .returned) (now (left m .0));
+}
+
+-- ---- the C face's return a number, and write the value through their last pointer
+
+abbrev told : Call → (before : List ℕ) → ℕ → ℤ → (after : List ℕ) → Done
+told c before n v after = record { call = c; before = before; number = n; value = v; after = after }
+
+abbrev filz-reading : In 2 code.filz_query.Kinds.ps → Out 2 code.filz_query.Kinds.ps code.filz_query.Kinds.r → (ℕ → Call) → Function
+filz-reading Asked Learnt call = record {
+  contract = contractOf 2 code.filz_query.Kinds.ps code.filz_query.Kinds.r Asked Learnt;
+  done = λ m. told (call (m .given .1 .0)) (now (m .given .0)) (m .returned) (now (left m .1 .1 .0)) (now (left m .0));
+}
+
+-- ---- all of them
+
+abbrev pub function : Name → Function
+function by-open = record {
+  contract = contractOf 1 code.open.Kinds.ps code.open.Kinds.r code.open.Reads.Asked code.open.Reads.Learnt;
+  done = λ m. answered (Open (m .given .1 .0)) (now (m .given .0)) (m .returned) (now (left m .0));
+}
+function by-book = record {
+  contract = contractOf 2 code.book.Kinds.ps code.book.Kinds.r code.book.Reads.Asked code.book.Reads.Learnt;
+  done = λ m. answered (Book (m .given .1 .0) (m .given .1 .1 .0) (now (m .given .1 .1 .1 .0))) (now (m .given .0)) (m .returned) (now (left m .0));
+}
+function by-poll = record {
+  contract = contractOf 2 code.poll.Kinds.ps code.poll.Kinds.r code.poll.Reads.Asked code.poll.Reads.Learnt;
+  done = λ m. answered (Poll (m .given .1 .0) (now (m .given .1 .1 .0))) (now (m .given .0)) (m .returned) (now (left m .0));
+}
+function by-query = reading code.query.Reads.Asked code.query.Reads.Learnt (Ask Query)
+function by-accepted = reading code.accepted.Reads.Asked code.accepted.Reads.Learnt (Ask Accepted)
+function by-lead = reading code.lead.Reads.Asked code.lead.Reads.Learnt (Ask Lead)
+function by-confidence = reading code.confidence.Reads.Asked code.confidence.Reads.Learnt (Ask Confidence)
+function by-size = reading code.size.Reads.Asked code.size.Reads.Learnt (Ask Size)
+function by-filz-open = record {
+  contract = contractOf 2 code.filz_open.Kinds.ps code.filz_open.Kinds.r code.filz_open.Reads.Asked code.filz_open.Reads.Learnt;
+  done = λ m. told
+      (Open (settingOf (m .given .1 .0) (m .given .1 .1 .0) (m .given .1 .1 .1 .0) (m .given .1 .1 .1 .1 .0)))
+      (now (m .given .0)) (m .returned) (now (left m .1 .1 .1 .1 .1 .0)) (now (left m .0));
+}
+function by-filz-book = record {
+  contract = contractOf 3 code.filz_book.Kinds.ps code.filz_book.Kinds.r code.filz_book.Reads.Asked code.filz_book.Reads.Learnt;
+  done = λ m. told
+      (Book (m .given .1 .0) (m .given .1 .1 .0) (now (m .given .1 .1 .1 .0)))
+      (now (m .given .0)) (m .returned) (now (left m .1 .1 .1 .1 .0)) (now (left m .0));
+}
+function by-filz-poll = record {
+  contract = contractOf 3 code.filz_poll.Kinds.ps code.filz_poll.Kinds.r code.filz_poll.Reads.Asked code.filz_poll.Reads.Learnt;
+  done = λ m. told
+      (Poll (m .given .1 .0) (now (m .given .1 .1 .0)))
+      (now (m .given .0)) (m .returned) (now (left m .1 .1 .1 .0)) (now (left m .0));
+}
+function by-filz-query = filz-reading code.filz_query.Reads.Asked code.filz_query.Reads.Learnt (Ask Query)
+function by-filz-accepted = filz-reading code.filz_accepted.Reads.Asked code.filz_accepted.Reads.Learnt (Ask Accepted)
+function by-filz-lead = filz-reading code.filz_lead.Reads.Asked code.filz_lead.Reads.Learnt (Ask Lead)
+function by-filz-confidence = filz-reading code.filz_confidence.Reads.Asked code.filz_confidence.Reads.Learnt (Ask Confidence)
+function by-filz-size = filz-reading code.filz_size.Reads.Asked code.filz_size.Reads.Learnt (Ask Size)

@@ -1,0 +1,120 @@
+-- What holds of the law's outcomes holds of every call that a contract allows, since it gives that outcome. Assumes nothing.
+use mathlib.Core.Path.{_≡_, refl, sym, ap, subst, _∙_}
+use mathlib.Core.Bool.{true}
+use mathlib.Core.List.{List}
+use Prim.Native.Nat.{ℕ}
+use lib.IntN.{pos}
+use Rattle.terms.specs.declared.answer.Answer.{Answer}
+use Rattle.terms.specs.declared.answer.Answer.the-variants.{Taken, Refused}
+use Rattle.terms.specs.Answers.{Outcome, number, value}
+use Rattle.rules.specs.Layout.{nameOf}
+use Rattle.rules.specs.Calls.{openCall, acceptedCall}
+use Rattle.rule_laws.proofs.Calls.{number-refused}
+use Rattle.promises.specs.Run.{Call, Open, Book, Poll, Ask, outcomeOf, isTaken, History, fresh, historyAfter}
+use Rattle.promises.specs.Acceptance.{AcceptedOnce, AcceptedCallOnce}
+use Rattle.promises.specs.Refusals.{RefusedKeeps}
+use Rattle.promises.proofs.Acceptance.{accepted-once, accepted-call-once}
+use Rattle.promises.proofs.Refusals.{refused-keeps, refused-listed}
+use Rattle.promises.proofs.Run.{Right, opening-right, step-right}
+use Rattle.station.specs.Returned.{Handed}
+use Rattle.code_promises.specs.OfCode.{
+  Done,
+  AnswerTold,
+  Made,
+  Listed,
+  CodeLawful,
+  OutcomeUnique,
+  CodeListed,
+  CodeRefuses,
+  Accepts,
+  CodeAcceptsOnce,
+  Ran,
+  opened,
+  called,
+  CodeKeeps,
+}
+use Rattle.code_promises.proofs.Functions.{function}
+use Rattle.code_promises.proofs.Lawful.{code-lawful}
+use Rattle.code_promises.proofs.Answers.{answer-told}
+
+-- what the law gives for a call that was made
+abbrev due : Done → Outcome
+due d = outcomeOf (d .call) (d .before)
+
+gave : (d : Done) → Made function d → Handed (due d) (d .number) (d .value) (d .after)
+unfolding CodeLawful
+gave d m = code-lawful d m
+
+due-is : (d : Done) {c : Call} {w : List ℕ} → d .call ≡ c → d .before ≡ w → due d ≡ outcomeOf c w
+due-is d {c} asks words = ap (λ x. outcomeOf x (d .before)) asks ∙ ap (outcomeOf c) words
+
+-- ---- demand 1
+
+pub outcome-unique : OutcomeUnique function
+unfolding OutcomeUnique
+outcome-unique d e m k c w =
+    let same = due-is d c w in (
+      gave d m .told .numbered ∙ ap (λ o. number (o .answer)) same ∙ sym (gave e k .told .numbered),
+      gave d m .told .valued ∙ ap (λ o. value (o .answer)) same ∙ sym (gave e k .told .valued),
+      gave d m .words ∙ ap (λ o. o .words) same ∙ sym (gave e k .words),
+    )
+
+listed : (c : Call) (w : List ℕ) → Listed c w (number (outcomeOf c w .answer))
+unfolding outcomeOf
+listed (Open s) w = refused-listed .opening w s
+listed (Book name slot parents) w = refused-listed .booking w name slot parents
+listed (Poll name votes) w = refused-listed .polling w name votes
+listed (Ask what name) w = refused-listed .reading what w name
+
+pub code-listed : CodeListed function
+unfolding CodeListed
+code-listed d m = subst (Listed (d .call) (d .before)) (sym (gave d m .told .numbered)) (listed (d .call) (d .before))
+
+pub code-refuses : CodeRefuses function
+unfolding CodeRefuses RefusedKeeps
+code-refuses d m n =
+    let kept = refused-keeps (d .call) (d .before) (λ e. n (gave d m .told .numbered ∙ e)) in
+    (gave d m .words ∙ kept .0, gave d m .told .valued ∙ kept .1)
+
+-- ---- demands 2 and 3
+
+-- an answer of 1 is the law's answer
+answered-one : (w : List ℕ) (i : ℕ) → Accepts function w i → acceptedCall w (nameOf w i) ≡ Taken (pos 1)
+unfolding outcomeOf AnswerTold
+answered-one w i a =
+    let law = ap (λ (o : Outcome). o .answer) (due-is (a .done) (a .asks) (a .words)) in
+    let given = gave (a .done) (a .made) .told in
+    answer-told (acceptedCall w (nameOf w i)) (Taken (pos 1))
+    (ap number (sym law) ∙ sym (given .numbered) ∙ a .taken)
+    (ap value (sym law) ∙ sym (given .valued) ∙ a .one)
+
+pub code-accepts-once : CodeAcceptsOnce function
+unfolding CodeAcceptsOnce AcceptedCallOnce
+code-accepts-once w i j hi hj same a b = accepted-call-once w i j hi hj same (answered-one w i a) (answered-one w j b)
+
+zero-taken : (r : Answer) → number r ≡ 0 → isTaken r ≡ true
+zero-taken (Taken v) e = refl
+zero-taken (Refused r) e = absurd (number-refused r e)
+
+ran-right : {w : List ℕ} {h : History} → Ran function w h → Right w h
+unfolding outcomeOf
+ran-right (opened d s m asks taken) =
+    let law = due-is d asks refl in
+    subst (λ x. Right x fresh) (sym (gave d m .words ∙ ap (λ o. o .words) law))
+    (opening-right (d .before) s
+    (zero-taken (openCall (d .before) s .answer) (ap (λ o. number (o .answer)) (sym law) ∙ sym (gave d m .told .numbered) ∙ taken)))
+ran-right (called d {h} m ran) =
+    subst (λ x. Right x (historyAfter (d .call) (d .before) h)) (sym (gave d m .words)) (step-right (d .call) (d .before) h (ran-right ran))
+
+pub code-keeps : CodeKeeps function
+unfolding CodeKeeps AcceptedOnce
+code-keeps w h ran =
+    let right = ran-right ran in
+    record {
+      ledger = right .ledger;
+      acceptedOnce = accepted-once w (right .ledger);
+      confidence = right .counted;
+      sum = right .summed;
+      preferred = right .led;
+      polled = right .polled;
+    }

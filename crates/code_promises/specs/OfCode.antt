@@ -1,0 +1,104 @@
+-- The promises said of the code: they follow from what the contracts of the public functions allow, and from nothing else.
+use mathlib.Core.Path.{_≡_}
+use mathlib.Core.Bool.{true}
+use mathlib.Core.List.{List}
+use mathlib.Core.Logic.{_≢_}
+use Prim.Native.Nat.{ℕ, _<_, _≤_}
+use lib.IntN.{ℤ, pos}
+use Rattle.loops.specs.Total.{total}
+use Rattle.terms.specs.declared.setting.Setting.{Setting}
+use Rattle.terms.specs.declared.answer.Reading.the-variants.{Accepted}
+use Rattle.terms.specs.declared.answer.Answer.{Answer}
+use Rattle.terms.specs.Answers.{number, value}
+use Rattle.rules.specs.Layout.{bookings, polls, slotOf, nameOf, confidenceOf, preferredIn}
+use Rattle.rules.specs.Readings.{acceptedOf}
+use Rattle.rules.specs.Sound.{Ledger}
+use Rattle.promises.specs.Run.{Call, Open, Book, Poll, Ask, outcomeOf, History, fresh, historyAfter}
+use Rattle.promises.specs.Refusals.{OpenListed, BookListed, PollListed, ReadingListed}
+use Rattle.promises.specs.Confidence.{Counted, sizes}
+use Rattle.station.specs.Returned.{Handed}
+use Rattle.code_promises.specs.Contract.{Contract, Unasked, Allowed}
+
+-- all that a caller sees of a call: the words before it, the number and the value that it gave, and the words after it
+pub record Done : Type 0 where
+  pub call : Call
+  pub before : List ℕ
+  pub number : ℕ
+  pub value : ℤ
+  pub after : List ℕ
+
+-- a public function: its contract, and what a caller sees of each call that it allows
+pub record Function : Type 4 where
+  pub contract : Contract
+  pub done : Allowed contract → Done
+
+-- number and value say all that an answer does, so what returns an answer and what returns a number are spoken of alike
+unfoldable pub AnswerTold : Type 0
+AnswerTold = (r q : Answer) → number r ≡ number q → value r ≡ value q → r ≡ q
+
+-- the number is that of the call's first listed case that applies, and 0 if none does
+abbrev pub Listed : Call → List ℕ → ℕ → Type 0
+Listed (Open s) w = OpenListed w s
+Listed (Book name slot parents) w = BookListed w name slot parents
+Listed (Poll name votes) w = PollListed w name votes
+Listed (Ask what name) w = ReadingListed w name
+
+-- demands 2 and 3 of words with their history
+pub record Kept (w : List ℕ) (h : History) : Type 0 where
+  pub ledger : Ledger w
+  pub acceptedOnce : (i j : ℕ) → i < bookings w → j < bookings w → slotOf w i ≡ slotOf w j → acceptedOf w i ≡ true → acceptedOf w j ≡ true → i ≡ j
+  pub confidence : (j : ℕ) → j < bookings w → Counted w j (h .successes) (confidenceOf w j)
+  pub sum : total (confidenceOf w) (bookings w) ≡ sizes w (h .successes)
+  pub preferred : (i : ℕ) → i < bookings w → confidenceOf w i ≤ confidenceOf w (preferredIn w (slotOf w i))
+  pub polled : polls w ≡ h .taken
+
+-- ---- the promises, of functions by their names. Which functions these are stands in proofs/Functions.antt
+module _ {Name : Type 0} (function : Name → Function) where
+  -- none of them needs a check first
+  unfoldable pub NothingAsked : Type 0
+  NothingAsked = (f : Name) → Unasked (function f .contract)
+
+  -- one of them may have made this call
+  pub record Made (d : Done) : Type 0 where
+    pub by : Name
+    pub allowed : Allowed (function by .contract)
+    pub seen : function by .done allowed ≡ d
+
+  -- each call gives what the law says: number, value and words
+  unfoldable pub CodeLawful : Type 0
+  CodeLawful = (d : Done) → Made d → Handed (outcomeOf (d .call) (d .before)) (d .number) (d .value) (d .after)
+
+  -- two outcomes of one call on the same words are equal
+  unfoldable pub OutcomeUnique : Type 0
+  OutcomeUnique =
+      (d e : Done) → Made d → Made e → d .call ≡ e .call → d .before ≡ e .before → (d .number ≡ e .number) × (d .value ≡ e .value) × (d .after ≡ e .after)
+
+  -- each refusal comes exactly in its listed case, the first in the order
+  unfoldable pub CodeListed : Type 0
+  CodeListed = (d : Done) → Made d → Listed (d .call) (d .before) (d .number)
+
+  -- a refused call has changed no word, and its value is 0
+  unfoldable pub CodeRefuses : Type 0
+  CodeRefuses = (d : Done) → Made d → d .number ≢ 0 → (d .after ≡ d .before) × (d .value ≡ pos 0)
+
+  -- a taken answer of 1 to the question whether booking i of the words w is accepted
+  pub record Accepts (w : List ℕ) (i : ℕ) : Type 0 where
+    pub done : Done
+    pub made : Made done
+    pub asks : done .call ≡ Ask Accepted (nameOf w i)
+    pub words : done .before ≡ w
+    pub taken : done .number ≡ 0
+    pub one : done .value ≡ pos 1
+
+  -- of two names in one slot at most one is answered so
+  unfoldable pub CodeAcceptsOnce : Type 0
+  CodeAcceptsOnce = (w : List ℕ) (i j : ℕ) → i < bookings w → j < bookings w → slotOf w i ≡ slotOf w j → Accepts w i → Accepts w j → i ≡ j
+
+  -- words that any calls leave after a taken opening, with the history of their polls
+  pub data Ran : List ℕ → History → Type 0 where
+    opened : (d : Done) (s : Setting) → Made d → d .call ≡ Open s → d .number ≡ 0 → Ran (d .after) fresh
+    called : (d : Done) {h : History} → Made d → Ran (d .before) h → Ran (d .after) (historyAfter (d .call) (d .before) h)
+
+  -- all such words have what demands 2 and 3 ask for
+  unfoldable pub CodeKeeps : Type 0
+  CodeKeeps = (w : List ℕ) (h : History) → Ran w h → Kept w h

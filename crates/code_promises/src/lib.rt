@@ -1,0 +1,18 @@
+// THE PROMISES OF THE CODE: named statements in specs/, their proofs in proofs/, from the contracts of the public functions alone. No code:
+// the functions are only passed on, so that the proofs name them here, and a function of a weaker contract can be put in the place of one.
+pub use ledger::accepted;
+pub use ledger::book;
+pub use ledger::confidence;
+pub use ledger::lead;
+pub use ledger::open;
+pub use ledger::poll;
+pub use ledger::query;
+pub use ledger::size;
+pub use station::filz_accepted;
+pub use station::filz_book;
+pub use station::filz_confidence;
+pub use station::filz_lead;
+pub use station::filz_open;
+pub use station::filz_poll;
+pub use station::filz_query;
+pub use station::filz_size;
