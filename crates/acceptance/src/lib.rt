@@ -2,15 +2,13 @@
 use booking_reads::booking;
 use rules::layout;
 ghost use mathlib.Core.Path.{_≡_};
-ghost use mathlib.Core.Bool.{_||_};
 ghost use Prim.Native.Nat.{_<_, _≤_};
-ghost use lib.Dec.{eqb};
 ghost use lib.ListN.{length};
 ghost use Rattle.loops.specs.Search.{first};
 ghost use Rattle.loops.specs.Turns.{upTo};
 ghost use Rattle.rules.specs.Layout.{size, mostBookings, mostParents, bookings};
 ghost use Rattle.rules.specs.Sound.{Ledger};
-ghost use Rattle.rules.specs.Readings.{parentsAccepted, firstArm, secondArm, acceptOne, acceptedBelow, acceptedOf};
+ghost use Rattle.rules.specs.Readings.{parentsAccepted, firstArm, secondArm, isAccepted, acceptOne, acceptedBelow, acceptedOf};
 ghost use Rattle.acceptance.specs.Steps.{unaccepted};
 
 // Whether place a of booking j holds a parent that is not accepted.
@@ -66,7 +64,7 @@ fn second_arm(w: &[u16], j: usize) -> bool
 // The genesis, or by one of the arms.
 fn is_accepted(w: &[u16], m: &[u8], j: usize) -> bool
     requires { ⌜ Ledger (now w) × (j < bookings (now w)) ⌝ }
-    ensures { λ r. ⌜ r ≡ (eqb j 0 || firstArm (now (w .entry)) (now (m .entry)) j || secondArm (now (w .entry)) j) ⌝ }
+    ensures { λ r. ⌜ r ≡ isAccepted (now (w .entry)) (now (m .entry)) j ⌝ }
 {
     (j == 0) | first_arm(w, m, j) | second_arm(w, j)
 }

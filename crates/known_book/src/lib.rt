@@ -4,13 +4,10 @@ use terms::answer::Answer;
 use terms::answer::Found;
 use terms::answer::Refusal;
 ghost use mathlib.Core.Path.{_≡_};
-ghost use mathlib.Core.Bool.{_||_};
-ghost use lib.Dec.{eqb, leb, ltb};
-ghost use Rattle.rules.specs.Layout.{slots, mostParents};
 ghost use Rattle.terms.specs.Answers.{outcome};
 ghost use Rattle.rules.specs.Sound.{Ledger};
 ghost use Rattle.rules.specs.Book.{lookUp, isFound};
-ghost use Rattle.rules.specs.Calls.{bookCall};
+ghost use Rattle.rules.specs.Calls.{isBadSlot, isBadCount, bookCall};
 
 // The name is already booked.
 fn is_booked(w: &[u16], name: u64) -> bool
@@ -25,14 +22,14 @@ fn is_booked(w: &[u16], name: u64) -> bool
 
 // Slot 0 is the genesis's alone, and above 255 there is none.
 fn is_bad_slot(slot: u16) -> bool
-    ensures { λ r. ⌜ r ≡ (eqb slot 0 || leb slots slot) ⌝ }
+    ensures { λ r. ⌜ r ≡ isBadSlot slot ⌝ }
 {
     (slot == 0) | (layout::SLOTS <= words::wide(slot))
 }
 
 // A booking has one to four parents.
 fn is_bad_count(count: usize) -> bool
-    ensures { λ r. ⌜ r ≡ (eqb count 0 || ltb mostParents count) ⌝ }
+    ensures { λ r. ⌜ r ≡ isBadCount count ⌝ }
 {
     (count == 0) | (layout::MOST_PARENTS < count)
 }

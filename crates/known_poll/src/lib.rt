@@ -9,14 +9,12 @@ use terms::vote::State;
 use votes;
 ghost use mathlib.Core.Path.{_≡_};
 ghost use Prim.Native.Nat.{_<_};
-ghost use mathlib.Core.Bool.{not};
 ghost use lib.ListN.{length};
-ghost use lib.Dec.{eqb};
-ghost use Rattle.rules.specs.Layout.{size, mostBookings, bookings, settingIn, stateOf};
+ghost use Rattle.rules.specs.Layout.{size, mostBookings, bookings};
 ghost use Rattle.terms.specs.Answers.{outcome};
 ghost use Rattle.rules.specs.Sound.{Ledger};
 ghost use Rattle.rules.specs.Poll.{isSuccess, polled};
-ghost use Rattle.rules.specs.Calls.{pollCall};
+ghost use Rattle.rules.specs.Calls.{isPolled, isMiscounted, pollCall};
 
 // The yes votes number a or more.
 fn is_success(w: &[u16], votes: &[u8]) -> bool
@@ -43,7 +41,7 @@ fn write_poll(w: &mut [u16], i: usize, votes: &[u8])
 // The state of booking i isn't 0.
 fn is_polled(w: &[u16], i: usize) -> bool
     requires { ⌜ (length (now w) ≡ size) × (i < mostBookings) ⌝ }
-    ensures { λ r. ⌜ r ≡ not (eqb (stateOf (now (w .entry)) i) 0) ⌝ }
+    ensures { λ r. ⌜ r ≡ isPolled (now (w .entry)) i ⌝ }
 {
     match vote::read_state(words::field(w, i, layout::STATE)) {
         State::Waiting => false,
@@ -56,7 +54,7 @@ fn is_polled(w: &[u16], i: usize) -> bool
 // The number of votes isn't k.
 fn is_miscounted(w: &[u16], count: usize) -> bool
     requires { ⌜ length (now w) ≡ size ⌝ }
-    ensures { λ r. ⌜ r ≡ not (eqb count (settingIn (now (w .entry)) .k)) ⌝ }
+    ensures { λ r. ⌜ r ≡ isMiscounted (now (w .entry)) count ⌝ }
 {
     count != words::wide(words::header(w, layout::K))
 }

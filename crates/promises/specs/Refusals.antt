@@ -74,41 +74,44 @@ OpenListed w s =
     (refuses 3 (Good s → ⊥)
     taken)
 
-abbrev pub BookListed : List ℕ → ℕ → ℕ → List ℕ → ℕ → Type 0
-BookListed w name slot parents =
+-- 1 and 2, which every call but open begins with
+abbrev pub testedListed : List ℕ → (ℕ → Type 0) → ℕ → Type 0
+testedListed w rest =
     refuses 1 (length w ≢ size)
     (refuses 2 (Sound w → ⊥)
+    rest)
+
+abbrev pub BookListed : List ℕ → ℕ → ℕ → List ℕ → ℕ → Type 0
+BookListed w name slot parents =
+    testedListed w
     (refuses 4 (Booked w name)
     (refuses 5 ((slot ≡ 0) ⊎ (slots ≤ slot))
     (refuses 6 ((length parents ≡ 0) ⊎ (mostParents < length parents))
     (refuses 7 (UnknownParent w parents)
     (refuses 8 (ParentTwice parents)
     (refuses 9 (bookings w ≡ mostBookings)
-    taken)))))))
+    taken))))))
 
 abbrev pub PollListed : List ℕ → ℕ → List ℕ → ℕ → Type 0
 PollListed w name votes =
-    refuses 1 (length w ≢ size)
-    (refuses 2 (Sound w → ⊥)
+    testedListed w
     (refuses 10 (Booked w name → ⊥)
     (refuses 11 (NotWaiting w name)
     (refuses 12 (length votes ≢ settingIn w .k)
     (refuses 13 (BadVote votes)
-    taken)))))
+    taken))))
 
 abbrev pub ReadingListed : List ℕ → ℕ → ℕ → Type 0
 ReadingListed w name =
-    refuses 1 (length w ≢ size)
-    (refuses 2 (Sound w → ⊥)
+    testedListed w
     (refuses 10 (Booked w name → ⊥)
-    taken))
+    taken)
 
 -- list may be refused with 1 or 2 only
 abbrev pub ListListed : List ℕ → ℕ → Type 0
 ListListed w =
-    refuses 1 (length w ≢ size)
-    (refuses 2 (Sound w → ⊥)
-    taken)
+    testedListed w
+    taken
 
 pub record RefusedListed : Type 0 where
   pub opening : (w : List ℕ) (s : Setting) → OpenListed w s (number (openCall w s .answer))

@@ -4,8 +4,8 @@ use mathlib.Core.Path.{_≡_, sym, ap, ap₂, fun-ext, _∙_}
 use mathlib.Core.Bool.{Bool, true, false, _&&_}
 use mathlib.Core.List.{List, [], _∷_, _++_}
 use Prim.Native.Nat.{ℕ}
-use lib.IntN.{pos, negℤ}
-use lib.ListN.{replicate}
+use lib.IntN.{pos, negsuc}
+use lib.ListN.{length, getD, replicate}
 use lib.Dec.{eqb}
 use Rattle.loops.specs.Turns.{upTo}
 use Rattle.loops.specs.Search.{firstFrom}
@@ -14,11 +14,9 @@ use Rattle.loops.specs.Fill.{from}
 use Rattle.loops.specs.Rows.{walkFrom}
 use Rattle.terms.specs.declared.answer.Reading.{Reading}
 use Rattle.terms.specs.declared.answer.Reading.the-variants.{Query, Accepted, Lead, Confidence, Size}
-use Rattle.terms.specs.declared.answer.Refusal.the-variants.{BadSetting}
 use Rattle.terms.specs.declared.answer.Answer.{Answer}
-use Rattle.terms.specs.declared.answer.Answer.the-variants.{Taken, Refused}
 use Rattle.terms.specs.Setting.{settingOf}
-use Rattle.terms.specs.Answers.{Outcome, done}
+use Rattle.terms.specs.Answers.{Outcome}
 use Rattle.rules.specs.Layout.{
   size,
   bookings,
@@ -59,13 +57,13 @@ abbrev confidences : List ℕ → ℕ
 confidences w = total (confidenceOf w) (bookings w)
 
 -- the calls that the cases make
-pub record Made : Type 0 where
+pub record CallsMade : Type 0 where
   pub book : List ℕ → ℕ → ℕ → List ℕ → Outcome
   pub poll : List ℕ → ℕ → List ℕ → Outcome
   pub ask : Reading → List ℕ → ℕ → Answer
 
 -- the calls of the law
-unfoldable pub theCalls : Made
+unfoldable pub theCalls : CallsMade
 theCalls =
     record {
       book = bookCall;
@@ -75,14 +73,18 @@ theCalls =
 
 -- a number, as the value of a taken call or read off the words
 abbrev is : ℕ → Got
-is n = got (Taken (pos n))
+is n = (0, pos n)
+
+-- n words from the one at k on
+abbrev wordsAt : List ℕ → (k n : ℕ) → List Got
+wordsAt w k n = from (λ f. is (getD w f 0)) k n
 
 abbrev unopened : List ℕ
 unopened = replicate size 0
 
 -- ---- P1 to P8 and P11: bookings 1 and 2 of slot 7, 3 below 1, and 4 below both
 
-unfoldable pub diamond : Made → List (List Got)
+unfoldable pub diamond : CallsMade → List (List Got)
 diamond c =
     let empty = openCall unopened (settingOf 3 2 1 2) .words in
     let booked1 = c .book empty 1 7 (0 ∷ []) .words in
@@ -115,24 +117,33 @@ diamond c =
     ∷ (got (c .ask Size poll1 4) ∷ got (c .ask Size poll1 0) ∷ [])
     -- P11: three noes: taken, and the state is 1
     ∷ (got (noes .answer) ∷ is (stateOf (noes .words) 2) ∷ [])
+    -- where the words stand at the end: how many, the header, record 4 and slot entry 7
+    ∷ (is (length poll1) ∷ [])
+    ∷ wordsAt poll1 0 8
+    ∷ wordsAt poll1 56 12
+    ∷ wordsAt poll1 6180 4
     ∷ []
 
 unfoldable pub diamondSays : List (List Got)
 diamondSays =
     (is 1 ∷ is 0 ∷ is 1 ∷ is 0 ∷ [])
     ∷ (is 2 ∷ is 0 ∷ is 0 ∷ [])
-    ∷ (got (Taken (negℤ (pos 1))) ∷ is 1 ∷ [])
-    ∷ (got done ∷ is 1 ∷ [])
+    ∷ ((0, negsuc 0) ∷ is 1 ∷ [])
+    ∷ (is 0 ∷ is 1 ∷ [])
     ∷ (is 2 ∷ is 1 ∷ is 2 ∷ is 0 ∷ is 1 ∷ is 6 ∷ is 2 ∷ is 4 ∷ [])
     ∷ (is 2 ∷ is 2 ∷ is 2 ∷ is 0 ∷ is 0 ∷ [])
     ∷ (is 8 ∷ is 2 ∷ is 4 ∷ is 2 ∷ [])
     ∷ (is 4 ∷ is 1 ∷ [])
-    ∷ (got done ∷ is 1 ∷ [])
+    ∷ (is 0 ∷ is 1 ∷ [])
+    ∷ (is 7176 ∷ [])
+    ∷ (is 5 ∷ is 3 ∷ is 2 ∷ is 1 ∷ is 2 ∷ is 4 ∷ is 0 ∷ is 0 ∷ [])
+    ∷ (is 0 ∷ is 0 ∷ is 0 ∷ is 4 ∷ is 10 ∷ is 1 ∷ is 2 ∷ is 65535 ∷ is 65535 ∷ is 2 ∷ is 1 ∷ is 3 ∷ [])
+    ∷ (is 2 ∷ is 1 ∷ is 0 ∷ is 2 ∷ [])
     ∷ []
 
 -- ---- P9, P10 and P12: a booking alone in its slot, and two settings
 
-unfoldable pub alone : Made → List (List Got)
+unfoldable pub alone : CallsMade → List (List Got)
 alone c =
     let booked = c .book (c .book (openCall unopened (settingOf 1 1 1 2) .words) 1 7 (0 ∷ []) .words) 2 8 (1 ∷ []) .words in
     let poll1 = c .poll booked 1 (1 ∷ []) .words in
@@ -149,12 +160,12 @@ unfoldable pub aloneSays : List (List Got)
 aloneSays =
     (is 1 ∷ is 0 ∷ [])
     ∷ (is 2 ∷ is 1 ∷ [])
-    ∷ (got (Refused BadSetting) ∷ got done ∷ [])
+    ∷ ((3, pos 0) ∷ is 0 ∷ [])
     ∷ []
 
 -- ---- beside P1 to P12: rivals 1 and 3 of slot 7, and 2 below 1
 
-unfoldable pub rivals : Made → List (List Got)
+unfoldable pub rivals : CallsMade → List (List Got)
 rivals c =
     let booked = c .book (c .book (c .book (openCall unopened (settingOf 1 1 1 1) .words) 1 7 (0 ∷ []) .words) 2 8 (1 ∷ []) .words) 3 7 (0 ∷ []) .words in
     let poll2 = c .poll (c .poll booked 1 (1 ∷ []) .words) 2 (1 ∷ []) .words in
@@ -182,19 +193,33 @@ rivalsSay =
     ∷ (is 3 ∷ is 0 ∷ [])
     ∷ []
 
+-- ---- beside P1 to P12: 4 rests on 2, and 2 on 1, which has the rival 3; β2 is far off
+
+unfoldable pub resting : CallsMade → List (List Got)
+resting c =
+    let first = c .book (c .book (openCall unopened (settingOf 1 1 1 510) .words) 1 7 (0 ∷ []) .words) 2 8 (1 ∷ []) .words in
+    let booked = c .book (c .book first 3 7 (0 ∷ []) .words) 4 9 (2 ∷ []) .words in
+    let poll4 = c .poll (c .poll booked 2 (1 ∷ []) .words) 4 (1 ∷ []) .words in
+    -- counters of slots 7 and 8 are above β1: 1 has a rival and is not accepted, and 2, alone in its slot, has a parent that isn't
+    (is (counterIn poll4 7) ∷ is (counterIn poll4 8) ∷ got (c .ask Accepted poll4 1) ∷ got (c .ask Accepted poll4 2) ∷ [])
+    ∷ []
+
+unfoldable pub restingSays : List (List Got)
+restingSays = (is 2 ∷ is 2 ∷ is 0 ∷ is 0 ∷ []) ∷ []
+
 -- ---- the whole table, by the ledgers that the cases are made on
 
 -- what the cases give
-abbrev pub table : Made → List (List Got)
-table c = diamond c ++ alone c ++ rivals c
+abbrev pub table : CallsMade → List (List Got)
+table c = diamond c ++ alone c ++ rivals c ++ resting c
 
 -- what document 01 says
 abbrev pub says : List (List Got)
-says = diamondSays ++ aloneSays ++ rivalsSay
+says = diamondSays ++ aloneSays ++ rivalsSay ++ restingSays
 
 -- ---- computed with the test that walks
 
-abbrev made : (List ℕ → Bool) → Made
+abbrev made : (List ℕ → Bool) → CallsMade
 made sound = record { book = bookBy (testBy sound); poll = pollBy (testBy sound); ask = readBy (testBy sound) }
 
 diamond-walked : Passes (sameTable (diamond (made isSoundWalked)) diamondSays)
@@ -209,13 +234,18 @@ rivals-walked : Passes (sameTable (rivals (made isSoundWalked)) rivalsSay)
 unfolding rivals rivalsSay same isSoundWalked headerGood genesisGood bookingGood parentsGood stateGood chits bookingsOf opened openWord lookUp hasUnknown hasTwice entered booked polled raiseOne prefer follow settleOne queryOf acceptOne acceptedOf rivalsMost leadOf sizeOf ancestry sweep spread voteOf openCall upTo firstFrom total greatest from walkFrom
 rivals-walked = tt
 
+resting-walked : Passes (sameTable (resting (made isSoundWalked)) restingSays)
+unfolding resting restingSays same isSoundWalked headerGood genesisGood bookingGood parentsGood stateGood chits bookingsOf opened openWord lookUp hasUnknown hasTwice entered booked polled raiseOne prefer follow settleOne queryOf acceptOne acceptedOf rivalsMost leadOf sizeOf ancestry sweep spread voteOf openCall upTo firstFrom total greatest from walkFrom
+resting-walked = tt
+
 -- one ledger's rows, by the calls of the law
-rows-by : (rows : Made → List (List Got)) (said : List (List Got)) → Passes (sameTable (rows (made isSoundWalked)) said) → rows theCalls ≡ said
+rows-by : (rows : CallsMade → List (List Got)) (said : List (List Got)) → Passes (sameTable (rows (made isSoundWalked)) said) → rows theCalls ≡ said
 unfolding theCalls bookCall pollCall testOf
 rows-by rows said walked = ap (λ sound. rows (made sound)) (fun-ext (λ w. sym (walked-is w))) ∙ same-table (rows (made isSoundWalked)) said (passes _ walked)
 
 -- the statement: the cases are as document 01 says
 pub cases : table theCalls ≡ says
 cases =
-    ap₂ _++_ (ap₂ _++_ (rows-by diamond diamondSays diamond-walked) (rows-by alone aloneSays alone-walked))
-    (rows-by rivals rivalsSay rivals-walked)
+    ap₂ _++_
+    (ap₂ _++_ (ap₂ _++_ (rows-by diamond diamondSays diamond-walked) (rows-by alone aloneSays alone-walked)) (rows-by rivals rivalsSay rivals-walked))
+    (rows-by resting restingSays resting-walked)

@@ -53,7 +53,7 @@ parentNumber w parents a = cond (ltb a (length parents)) (numberOf (parentFound 
 abbrev pub parentNumbers : List ℕ → List ℕ → List ℕ
 parentNumbers w parents = parentNumber w parents 0 ∷ parentNumber w parents 1 ∷ parentNumber w parents 2 ∷ parentNumber w parents 3 ∷ []
 
--- ---- what a taken booking leaves, its parents given by number
+-- ---- what a taken booking leaves; p has its four parent places
 
 -- name in four parts, slot, parents, state 0, confidence 0, no ordinal
 abbrev pub newRecord : ℕ → ℕ → List ℕ → List ℕ
@@ -72,6 +72,6 @@ abbrev pub bookedWith : List ℕ → ℕ → ℕ → List ℕ → List ℕ
 bookedWith w name slot p =
     withHeader (entered slot (bookings w) (sets w (recordAt (bookings w) 0) (newRecord name slot p))) bookingsField (bookings w + 1)
 
--- the same, its parents given by name
+-- with the parents by name
 unfoldable pub booked : List ℕ → ℕ → ℕ → List ℕ → List ℕ
 booked w name slot parents = bookedWith w name slot (parentNumbers w parents)

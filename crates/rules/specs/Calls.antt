@@ -1,5 +1,5 @@
 -- Document 01, "Numbers a caller gets back": each call with its refusals in their order; the first that applies is given.
--- A call is one total function from any list of words and any arguments to an answer and the words it leaves.
+-- A call is one total function of any list of words and any arguments; it gives an answer, and a call that writes the words it leaves too.
 use Prim.Native.Nat.{ℕ}
 use mathlib.Core.Bool.{Bool, not, _||_, cond}
 use mathlib.Core.List.{List}
@@ -72,8 +72,25 @@ abbrev pub askedOf : Found → (ℕ → Answer) → Answer
 askedOf (At i) rest = rest i
 askedOf Absent rest = Refused UnknownName
 
--- ---- refusals 7, 8 and 9, which are judged of the parents
+-- ---- single cases of the table
 
+-- 5: the slot is 0 or above 255
+abbrev pub isBadSlot : ℕ → Bool
+isBadSlot slot = eqb slot 0 || leb slots slot
+
+-- 6: there are no parents or more than four
+abbrev pub isBadCount : ℕ → Bool
+isBadCount count = eqb count 0 || ltb mostParents count
+
+-- 11: the state of booking i isn't 0
+abbrev pub isPolled : List ℕ → ℕ → Bool
+isPolled w i = not (eqb (stateOf w i) 0)
+
+-- 12: the number of vote bytes isn't k
+abbrev pub isMiscounted : List ℕ → ℕ → Bool
+isMiscounted w count = not (eqb count (settingIn w .k))
+
+-- 7, 8 and 9: what is left of a booking's refusals once its name, its slot and the number of its parents pass
 abbrev pub parentsAnswer : List ℕ → List ℕ → Answer
 parentsAnswer w parents =
     cond (hasUnknown w parents) (Refused UnknownParent)
@@ -81,8 +98,8 @@ parentsAnswer w parents =
     (cond (eqb (bookings w) mostBookings) (Refused Full)
     done))
 
--- The other calls first test the workspace. Their test is `testOf`, given at the end of this file; that the section takes it
--- lets the table of cases be computed with a faster one of the same results (proofs/Cases.antt).
+-- The other calls first test the workspace. Their test is `testOf`; that the section takes it as a parameter lets the table of cases
+-- be computed with a faster one of the same results (proofs/Cases.antt).
 module _ (test : List ℕ → Tested) where
   abbrev pub tested : List ℕ → Answer → Answer
   tested w rest = unlessStopped (test w) rest
@@ -93,8 +110,8 @@ module _ (test : List ℕ → Tested) where
   bookAnswer w name slot parents =
       tested w
       (cond (isFound (lookUp w name)) (Refused NameTaken)
-      (cond (eqb slot 0 || leb slots slot) (Refused BadSlot)
-      (cond (eqb (length parents) 0 || ltb mostParents (length parents)) (Refused BadParents)
+      (cond (isBadSlot slot) (Refused BadSlot)
+      (cond (isBadCount (length parents)) (Refused BadParents)
       (parentsAnswer w parents))))
 
   abbrev pub bookBy : List ℕ → ℕ → ℕ → List ℕ → Outcome
@@ -106,8 +123,8 @@ module _ (test : List ℕ → Tested) where
   pollAnswer w name votes =
       tested w
       (askedOf (lookUp w name) (λ i.
-      cond (not (eqb (stateOf w i) 0)) (Refused NotWaiting)
-      (cond (not (eqb (length votes) (settingIn w .k))) (Refused WrongVotes)
+      cond (isPolled w i) (Refused NotWaiting)
+      (cond (isMiscounted w (length votes)) (Refused WrongVotes)
       (cond (hasRefusedVote votes) (Refused BadVote)
       done))))
 

@@ -1,4 +1,4 @@
--- Document 01, "A workspace is sound exactly if": the test, row by row, so that the lowest row that breaks a rule has a name.
+-- Document 01, "A workspace is sound exactly if": the test, by the header, each record, the ordinals as a whole and each slot entry.
 -- Sound.antt says the same sentence by sentence.
 use Prim.Native.Nat.{ℕ, _+_}
 use mathlib.Core.Bool.{Bool, _&&_, _||_, not, cond}
@@ -91,13 +91,16 @@ recordGood w i = cond (eqb i 0) (genesisGood w) (bookingGood w i) && leb (confid
 abbrev pub ordinalsHeld : List ℕ → Bool
 ordinalsHeld w = all (λ o. any (λ i. eqb (ordinalOf w i) (o + 1)) (bookings w)) (polls w)
 
--- a record from n on is all zero
 abbrev pub recordZero : List ℕ → ℕ → Bool
 recordZero w i = all (λ f. eqb (field w i f) 0) recordWords
 
+-- a record from n on is all zero
+abbrev pub restGood : List ℕ → ℕ → Bool
+restGood w i = ltb i (bookings w) || recordZero w i
+
 unfoldable pub recordsGood : List ℕ → Bool
 recordsGood w =
-    all (recordGood w) (bookings w) && ordinalsHeld w && all (λ i. ltb i (bookings w) || recordZero w i) mostBookings
+    all (recordGood w) (bookings w) && ordinalsHeld w && all (restGood w) mostBookings
 
 -- ---- slot entries
 

@@ -4,6 +4,7 @@ use Prim.Native.Nat.{ℕ, _+_, _*_}
 use mathlib.Core.List.{List}
 use lib.ListN.{getD, set}
 use Rattle.terms.specs.declared.setting.Setting.{Setting}
+use Rattle.terms.specs.Setting.{settingOf}
 
 -- ---- numbers that bound it
 
@@ -93,7 +94,7 @@ abbrev pub bookings : List ℕ → ℕ
 bookings w = header w bookingsField
 
 abbrev pub settingIn : List ℕ → Setting
-settingIn w = record { k = header w kField; a = header w aField; beta1 = header w beta1Field; beta2 = header w beta2Field }
+settingIn w = settingOf (header w kField) (header w aField) (header w beta1Field) (header w beta2Field)
 
 -- p, how many polls were taken
 abbrev pub polls : List ℕ → ℕ

@@ -1,5 +1,5 @@
 -- THE LAW: document 01 as definitions over the workspace as a list of words, a file for each of its sections.
--- All that a reader has to believe is here.
+-- With the words of terms/specs and the loops of loops/specs that is all that a reader has to believe of the ledger.
 pub mod Layout
 pub mod Ancestry
 pub mod IsSound

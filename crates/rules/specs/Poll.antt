@@ -82,6 +82,6 @@ succeededWith m w i = settled m (bookings w) (raised m (bookings w) (noted w i 2
 abbrev pub succeeded : List ℕ → ℕ → List ℕ
 succeeded w i = succeededWith (ancestry w i) w i
 
--- booking i after a taken poll
+-- the words after a taken poll of booking i
 unfoldable pub polled : List ℕ → ℕ → List ℕ → List ℕ
 polled w i votes = cond (isSuccess w votes) (succeeded w i) (failed w i)

@@ -32,14 +32,22 @@ isLast w j = eqb (lastIn w (slotOf w j)) j
 
 -- ---- query: every member of the ancestry is preferred in its slot
 
+-- j is no member of m, or is preferred
+abbrev pub passesQuery : List ℕ → List ℕ → ℕ → Bool
+passesQuery w m j = not (isMember m j) || isPreferred w j
+
 unfoldable pub queryOf : List ℕ → ℕ → Bool
-queryOf w i = all (λ j. not (isMember (ancestry w i) j) || isPreferred w j) (bookings w)
+queryOf w i = all (passesQuery w (ancestry w i)) (bookings w)
 
 -- ---- accepted
 
--- all parents are accepted; m has a mark for each accepted booking below j
+-- place a of booking j is unused, or holds a parent that is accepted; m has a mark for each accepted booking below j
+abbrev pub parentAccepted : List ℕ → List ℕ → ℕ → ℕ → Bool
+parentAccepted w m j a = eqb (parentOf w j a) none || isMember m (parentOf w j a)
+
+-- all parents are accepted
 abbrev pub parentsAccepted : List ℕ → List ℕ → ℕ → Bool
-parentsAccepted w m j = all (λ a. eqb (parentOf w j a) none || isMember m (parentOf w j a)) mostParents
+parentsAccepted w m j = all (parentAccepted w m j) mostParents
 
 -- all parents are accepted, the slot has one booking and its counter is above β1
 abbrev pub firstArm : List ℕ → List ℕ → ℕ → Bool
@@ -49,9 +57,13 @@ firstArm w m j = parentsAccepted w m j && eqb (heldIn w (slotOf w j)) 1 && ltb (
 abbrev pub secondArm : List ℕ → ℕ → Bool
 secondArm w j = isPreferred w j && isLast w j && ltb (settingIn w .beta2) (counterIn w (slotOf w j))
 
--- 1 for the genesis; for others 1 exactly by one of the arms
+-- the genesis is accepted; others exactly by one of the arms
+abbrev pub isAccepted : List ℕ → List ℕ → ℕ → Bool
+isAccepted w m j = eqb j 0 || firstArm w m j || secondArm w j
+
+-- the marks with j marked too, if it is accepted
 unfoldable pub acceptOne : List ℕ → ℕ → List ℕ → List ℕ
-acceptOne w j m = cond (eqb j 0 || firstArm w m j || secondArm w j) (mark j m) m
+acceptOne w j m = cond (isAccepted w m j) (mark j m) m
 
 -- the accepted bookings below n, marked in rising number: parents are lower
 abbrev pub acceptedBelow : List ℕ → ℕ → List ℕ

@@ -2,12 +2,11 @@
 use crate::ordinals;
 use rules::layout;
 ghost use mathlib.Core.Path.{_≡_};
-ghost use mathlib.Core.Bool.{not, _||_};
+ghost use mathlib.Core.Bool.{not};
 ghost use Prim.Native.Nat.{_<_};
-ghost use lib.Dec.{ltb};
 ghost use Rattle.loops.specs.Search.{first};
-ghost use Rattle.rules.specs.Layout.{mostBookings, bookings, polls};
-ghost use Rattle.rules.specs.IsSound.{chits, nameNew, bookingGood, recordGood, recordsGood, recordZero};
+ghost use Rattle.rules.specs.Layout.{mostBookings, polls};
+ghost use Rattle.rules.specs.IsSound.{chits, nameNew, bookingGood, recordGood, recordsGood, restGood};
 ghost use Rattle.name_filter.specs.Names.{namesBelow};
 ghost use Rattle.sound_rows.specs.HasBookings.{HasBookings};
 ghost use Rattle.sound.specs.Ordinals.{ordinalsBelow, Reached};
@@ -70,7 +69,7 @@ fn bad_record(w: &[u16], n: usize, limit: usize, marks: &mut [u64], filter: &mut
 // The lowest record from n on that is not all zero, or 512.
 fn stray_record(w: &[u16], n: usize) -> usize
     requires { ⌜ HasBookings (now w) n ⌝ }
-    ensures { λ r. ⌜ r ≡ first (λ i. not (ltb i (bookings (now (w .entry))) || recordZero (now (w .entry)) i)) mostBookings ⌝ }
+    ensures { λ r. ⌜ r ≡ first (λ i. not (restGood (now (w .entry)) i)) mostBookings ⌝ }
 {
     for i in n..layout::MOST_BOOKINGS {
         if !sound_rows::record::record_zero(w, i) {
