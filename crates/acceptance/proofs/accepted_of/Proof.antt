@@ -24,7 +24,7 @@ returns : tie.Need-returns
 unfolding acceptedOf
 returns c =
     let start = c .before .before .before .before .before .before in
-    rw (← add-one (start .args .i), ← c .before .before .before .accept-below .ensures) (c .is-member .ensures)
+    simp (c .before .before .before .accept-below .ensures, add-one (start .args .i)) at (c .is-member .ensures)
 
 pub accepted-of-spec : {M : Type 1} → statement M
 accepted-of-spec =

@@ -1,4 +1,5 @@
 -- Two words read as signed numbers, and their difference: the definition, at what the calls ensure.
+use mathlib.Core.Path.{_∙_}
 use native.Mathlib.Omega.{arith}
 use borrow.Author.Needs.{needs}
 use mir.Syntax.{w64}
@@ -25,8 +26,8 @@ sub-result c = difference-fits w64 (c .before .confidence-of .result) (c .rivals
 returns : tie.Need-returns
 unfolding leadOf
 returns c =
-    rw (← c .before .confidence-of .ensures, ← c .rivals-most .ensures)
-    (difference-is w64 (c .before .confidence-of .result) (c .rivals-most .result) (omega arith) (omega arith))
+    difference-is w64 (c .before .confidence-of .result) (c .rivals-most .result) (omega arith) (omega arith)
+    ∙ rw (c .before .confidence-of .ensures, c .rivals-most .ensures)
 
 pub lead-of-spec : {M : Type 1} → statement M
 lead-of-spec =
