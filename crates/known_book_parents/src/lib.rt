@@ -81,6 +81,6 @@ pub fn book_parents(w: &mut [u16], name: u64, slot: u16, parents: &[u64]) -> Ans
     if full {
         return Answer::Refused(Refusal::Full);
     }
-    writes::booking::write_booking(w, name, slot, &numbers);
+    book_writes::write_booking(w, name, slot, &numbers);
     Answer::Taken(0)
 }

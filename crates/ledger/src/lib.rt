@@ -22,7 +22,7 @@ pub fn open(w: &mut [u16], s: Setting) -> Answer
         return Answer::Refused(Refusal::WrongLength);
     }
     if s.is_good() {
-        writes::opening::write_open(w, s);
+        open_writes::write_open(w, s);
         Answer::Taken(0)
     } else {
         Answer::Refused(Refusal::BadSetting)

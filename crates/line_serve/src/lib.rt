@@ -23,7 +23,7 @@ fn serve_open(w: &mut [u16], known: bool, s: Setting, out: &mut [u8], at: usize)
     ensures { λ r. ⌜ Serves (called (openCall (now (w .entry)) s)) (now (out .entry)) at r (now (w .exit)) (now (out .exit)) ⌝ }
 {
     if s.is_good() {
-        writes::opening::write_open(w, s);
+        open_writes::write_open(w, s);
         Served { at, known: true }
     } else {
         let next = text_print::put_call(out, at, Answer::Refused(Refusal::BadSetting));

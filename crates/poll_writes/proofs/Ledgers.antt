@@ -10,8 +10,8 @@ use Rattle.rule_laws.proofs.Slots.{slotOf-lt, preferredIn-lt}
 use Rattle.rule_laws.proofs.Readings.{confidence-le, counter-le}
 use Rattle.rule_laws.proofs.Noted.{length-noted, field-noted-beside, confidence-noted, entry-noted-kept}
 use Rattle.rule_laws.proofs.Raised.{length-raised, field-raised-beside, entry-raised-kept}
-use Rattle.writes.specs.Raising.{Raising}
-use Rattle.writes.specs.Settling.{Settling}
+use Rattle.poll_writes.specs.Raising.{Raising}
+use Rattle.poll_writes.specs.Settling.{Settling}
 
 -- ---- a ledger
 

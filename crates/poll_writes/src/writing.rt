@@ -1,4 +1,6 @@
 // The poll is noted; on success the members of the ancestry are raised, and then each is settled.
+use crate::raising;
+use crate::settling;
 use rules::layout;
 ghost use mathlib.Core.Path.{_≡_};
 ghost use Prim.Native.Nat.{_<_};
@@ -17,7 +19,7 @@ pub fn write_failure(w: &mut [u16], i: usize)
     requires { ⌜ Ledger (now w) × (i < bookings (now w)) ⌝ }
     ensures { λ _. ⌜ now (w .exit) ≡ failed (now (w .entry)) i ⌝ }
 {
-    writes::raising::note(w, i, FAILED);
+    raising::note(w, i, FAILED);
 }
 
 // The state becomes 2; every member of the marks is raised, and only then each is settled.
@@ -26,7 +28,7 @@ pub fn write_success(w: &mut [u16], marks: &[u8], i: usize)
     ensures { λ _. ⌜ now (w .exit) ≡ succeededWith (now (marks .entry)) (now (w .entry)) i ⌝ }
 {
     let n = words::wide(words::header(w, layout::BOOKINGS));
-    writes::raising::note(w, i, CHIT);
-    writes::raising::raise(w, marks, n);
-    writes::settling::settle(w, marks, n);
+    raising::note(w, i, CHIT);
+    raising::raise(w, marks, n);
+    settling::settle(w, marks, n);
 }

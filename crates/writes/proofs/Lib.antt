@@ -1,7 +1,0 @@
--- Laws that the proofs of the functions cite. They assume nothing.
-pub mod Word
-pub mod Begun
-pub mod Rows
-pub mod Booked
-pub mod Held
-pub mod Settles
