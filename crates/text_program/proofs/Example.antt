@@ -17,6 +17,16 @@ use Rattle.line_serve.specs.Serve.{served}
 use Rattle.text_program.specs.Program.{zeros, lines, printed, program}
 use Rattle.text_program.proofs.Program.{program-short}
 
+-- how an input falls into lines: none in an empty one and none after the final line feed, an empty one, and a last one that ends with the input
+line-cases :
+    (lines (bytes "") ≡ [])
+    × (lines (bytes "\n") ≡ bytes "" ∷ [])
+    × (lines (bytes "list") ≡ bytes "list" ∷ [])
+    × (lines (bytes "list\n") ≡ bytes "list" ∷ [])
+    × (lines (bytes "list\n\nsize 1") ≡ bytes "list" ∷ bytes "" ∷ bytes "size 1" ∷ [])
+unfolding lines
+line-cases = (refl, refl, refl, refl, refl)
+
 -- the ten lines
 abbrev pub example : List (List ℕ)
 example =
