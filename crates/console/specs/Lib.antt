@@ -1,2 +1,2 @@
--- What the program needs besides what a line does.
-pub mod Lines
+-- What the program's own functions say: what a read told, and which words are left.
+pub mod Console

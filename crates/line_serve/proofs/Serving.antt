@@ -22,10 +22,10 @@ use Rattle.text_print.specs.Print.{callPrints, readingPrints}
 use Rattle.line_parse.specs.declared.command.Command.{Command}
 use Rattle.line_parse.specs.Line.{lineSays}
 use Rattle.line_parse.proofs.Counts.{take-stored}
-use Rattle.text_listing.specs.Listed.{listPrints}
+use Rattle.text_listing.specs.Listed.{listPrints, listShows}
 use Rattle.text_listing.proofs.Rows.{list-length}
 use Rattle.line_serve.specs.declared.Served.{Served}
-use Rattle.line_serve.specs.Serve.{Effect, called, asked, listShows, listed, commandDoes, served, Serves}
+use Rattle.line_serve.specs.Serve.{Effect, called, asked, listed, commandDoes, served, Serves}
 use Rattle.line_serve.proofs.Short.{call-length, reading-length, refusal-length}
 
 module _ {out out′ : List ℕ} {at : ℕ} {r : Served} where

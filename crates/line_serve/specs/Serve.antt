@@ -5,18 +5,17 @@ use mathlib.Core.Bool.{Bool}
 use mathlib.Core.List.{List}
 use lib.ListN.{length}
 use Rattle.terms.specs.declared.answer.Answer.{Answer}
-use Rattle.terms.specs.declared.answer.Answer.the-variants.{Taken, Refused}
 use Rattle.terms.specs.Answers.{Outcome}
 use Rattle.rules.specs.Layout.{size}
 use Rattle.rules.specs.IsSound.{isSound}
 use Rattle.rules.specs.Calls.{openCall, bookCall, pollCall, readCall}
 use Rattle.rules.specs.Listing.{listCall}
 use Rattle.text_put.specs.Put.{Put}
-use Rattle.text_print.specs.Print.{badLine, refusalPrints, readingPrints, callPrints}
+use Rattle.text_print.specs.Print.{badLine, readingPrints, callPrints}
 use Rattle.line_parse.specs.declared.command.Command.{Command}
 use Rattle.line_parse.specs.declared.command.Command.the-variants.{Open, Book, Poll, Read, List as ListAll, Bad}
 use Rattle.line_parse.specs.Line.{Said, lineSays}
-use Rattle.text_listing.specs.Listed.{listPrints, lineMost}
+use Rattle.text_listing.specs.Listed.{listShows, lineMost}
 use Rattle.line_serve.specs.declared.Served.{Served}
 
 -- the words that a line leaves, and the bytes that it prints
@@ -31,11 +30,6 @@ called o = record { words = o .words; prints = callPrints (o .answer) }
 -- a reading prints its value
 abbrev pub asked : List ℕ → Answer → Effect
 asked w a = record { words = w; prints = readingPrints a }
-
--- a taken `list` prints the listing
-abbrev pub listShows : Answer → List ℕ → List ℕ
-listShows (Taken v) w = listPrints w
-listShows (Refused r) w = refusalPrints r
 
 abbrev pub listed : List ℕ → Effect
 listed w = record { words = w; prints = listShows (listCall w) w }

@@ -1,12 +1,11 @@
 -- Document 01, "Cases on each side": P1 to P12, one table under one statement, computed from the definitions on whole workspaces.
 -- Every step is a call with its refusals, as a user would make it, and every reading the number and the value that come back: a refusal is not taken for a 0.
 use mathlib.Core.Path.{_≡_, sym, ap, ap₂, fun-ext, _∙_}
-use mathlib.Core.Bool.{Bool, true, false, _&&_}
+use mathlib.Core.Bool.{Bool}
 use mathlib.Core.List.{List, [], _∷_, _++_}
 use Prim.Native.Nat.{ℕ}
 use lib.IntN.{pos, negsuc}
 use lib.ListN.{length, getD, replicate}
-use lib.Dec.{eqb}
 use Rattle.loops.specs.Turns.{upTo}
 use Rattle.loops.specs.Search.{firstFrom}
 use Rattle.loops.specs.Total.{bit, total, greatest}
@@ -42,15 +41,8 @@ use Rattle.rules.specs.Book.{lookUp, hasUnknown, hasTwice, entered, book
 use Rattle.rules.specs.Poll.{polled, raiseOne, prefer, follow, settleOne}
 use Rattle.rules.specs.Readings.{queryOf, acceptOne, acceptedOf, rivalsMost, leadOf, sizeOf}
 use Rattle.rules.specs.Calls.{openCall, testBy, testOf, bookBy, pollBy, readBy, bookCall, pollCall, readCall}
-use Rattle.rules.proofs.Same.{Got, got, Passes, passes, sameTable, same-table}
+use Rattle.rules.proofs.Same.{sameNumbers, Got, got, Passes, passes, sameTable, same-table}
 use Rattle.rules.proofs.Walk.{isSoundWalked, walked-is}
-
--- whether two workspaces have the same words
-unfoldable pub same : List ℕ → List ℕ → Bool
-same [] [] = true
-same [] (y ∷ ys) = false
-same (x ∷ xs) [] = false
-same (x ∷ xs) (y ∷ ys) = eqb x y && same xs ys
 
 -- all confidences together
 abbrev confidences : List ℕ → ℕ
@@ -104,7 +96,7 @@ diamond c =
     ∷ (got (c .ask Lead poll2 1) ∷ got (c .ask Lead poll2 2) ∷ [])
     -- P4: the failed poll is taken, and only state, ordinal and p move
     ∷ (got (poll3 .answer)
-    ∷ is (bit (same (poll3 .words) (withHeader (withField (withField poll2 3 stateField 1) 3 ordinalField 2) pollsField 2)))
+    ∷ is (bit (sameNumbers (poll3 .words) (withHeader (withField (withField poll2 3 stateField 1) 3 ordinalField 2) pollsField 2)))
     ∷ [])
     -- P5: the confidences, their total, and the sizes of 2 and 4
     ∷ (got (c .ask Confidence poll4 0) ∷ got (c .ask Confidence poll4 1) ∷ got (c .ask Confidence poll4 2) ∷ got (c .ask Confidence poll4 3) ∷ got (c .ask Confidence poll4 4)
@@ -223,19 +215,19 @@ abbrev made : (List ℕ → Bool) → CallsMade
 made sound = record { book = bookBy (testBy sound); poll = pollBy (testBy sound); ask = readBy (testBy sound) }
 
 diamond-walked : Passes (sameTable (diamond (made isSoundWalked)) diamondSays)
-unfolding diamond diamondSays same isSoundWalked headerGood genesisGood bookingGood parentsGood stateGood chits bookingsOf opened openWord lookUp hasUnknown hasTwice entered booked polled raiseOne prefer follow settleOne queryOf acceptOne acceptedOf rivalsMost leadOf sizeOf ancestry sweep spread voteOf openCall upTo firstFrom total greatest from walkFrom
+unfolding diamond diamondSays sameNumbers isSoundWalked headerGood genesisGood bookingGood parentsGood stateGood chits bookingsOf opened openWord lookUp hasUnknown hasTwice entered booked polled raiseOne prefer follow settleOne queryOf acceptOne acceptedOf rivalsMost leadOf sizeOf ancestry sweep spread voteOf openCall upTo firstFrom total greatest from walkFrom
 diamond-walked = tt
 
 alone-walked : Passes (sameTable (alone (made isSoundWalked)) aloneSays)
-unfolding alone aloneSays same isSoundWalked headerGood genesisGood bookingGood parentsGood stateGood chits bookingsOf opened openWord lookUp hasUnknown hasTwice entered booked polled raiseOne prefer follow settleOne queryOf acceptOne acceptedOf rivalsMost leadOf sizeOf ancestry sweep spread voteOf openCall upTo firstFrom total greatest from walkFrom
+unfolding alone aloneSays isSoundWalked headerGood genesisGood bookingGood parentsGood stateGood chits bookingsOf opened openWord lookUp hasUnknown hasTwice entered booked polled raiseOne prefer follow settleOne queryOf acceptOne acceptedOf rivalsMost leadOf sizeOf ancestry sweep spread voteOf openCall upTo firstFrom total greatest from walkFrom
 alone-walked = tt
 
 rivals-walked : Passes (sameTable (rivals (made isSoundWalked)) rivalsSay)
-unfolding rivals rivalsSay same isSoundWalked headerGood genesisGood bookingGood parentsGood stateGood chits bookingsOf opened openWord lookUp hasUnknown hasTwice entered booked polled raiseOne prefer follow settleOne queryOf acceptOne acceptedOf rivalsMost leadOf sizeOf ancestry sweep spread voteOf openCall upTo firstFrom total greatest from walkFrom
+unfolding rivals rivalsSay isSoundWalked headerGood genesisGood bookingGood parentsGood stateGood chits bookingsOf opened openWord lookUp hasUnknown hasTwice entered booked polled raiseOne prefer follow settleOne queryOf acceptOne acceptedOf rivalsMost leadOf sizeOf ancestry sweep spread voteOf openCall upTo firstFrom total greatest from walkFrom
 rivals-walked = tt
 
 resting-walked : Passes (sameTable (resting (made isSoundWalked)) restingSays)
-unfolding resting restingSays same isSoundWalked headerGood genesisGood bookingGood parentsGood stateGood chits bookingsOf opened openWord lookUp hasUnknown hasTwice entered booked polled raiseOne prefer follow settleOne queryOf acceptOne acceptedOf rivalsMost leadOf sizeOf ancestry sweep spread voteOf openCall upTo firstFrom total greatest from walkFrom
+unfolding resting restingSays isSoundWalked headerGood genesisGood bookingGood parentsGood stateGood chits bookingsOf opened openWord lookUp hasUnknown hasTwice entered booked polled raiseOne prefer follow settleOne queryOf acceptOne acceptedOf rivalsMost leadOf sizeOf ancestry sweep spread voteOf openCall upTo firstFrom total greatest from walkFrom
 resting-walked = tt
 
 -- one ledger's rows, by the calls of the law

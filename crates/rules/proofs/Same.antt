@@ -67,3 +67,18 @@ same-table [] [] e = refl
 same-table [] (s ∷ ss) e = absurd (true≢false (sym e))
 same-table (r ∷ rs) [] e = absurd (true≢false (sym e))
 same-table (r ∷ rs) (s ∷ ss) e = ap₂ _∷_ (same-row r s (and-left _ _ e)) (same-table rs ss (and-right (sameRow r s) _ e))
+
+-- ---- the same of words or bytes
+
+unfoldable pub sameNumbers : List ℕ → List ℕ → Bool
+sameNumbers [] [] = true
+sameNumbers [] (y ∷ ys) = false
+sameNumbers (x ∷ xs) [] = false
+sameNumbers (x ∷ xs) (y ∷ ys) = eqb x y && sameNumbers xs ys
+
+pub same-numbers : (xs ys : List ℕ) → sameNumbers xs ys ≡ true → xs ≡ ys
+unfolding sameNumbers
+same-numbers [] [] e = refl
+same-numbers [] (y ∷ ys) e = absurd (true≢false (sym e))
+same-numbers (x ∷ xs) [] e = absurd (true≢false (sym e))
+same-numbers (x ∷ xs) (y ∷ ys) e = ap₂ _∷_ (eqb→≡ x y (and-left _ _ e)) (same-numbers xs ys (and-right (eqb x y) _ e))

@@ -11,14 +11,13 @@ use Rattle.loops.proofs.Total.{bit-le}
 use Rattle.rules.specs.Layout.{bookings, slotOf, stateOf, confidenceOf}
 use Rattle.rules.specs.Readings.{isPreferred, acceptedOf}
 use Rattle.rules.specs.Sound.{Ledger}
-use Rattle.rules.specs.Listing.{listRow}
 use Rattle.rule_laws.proofs.Slots.{slotOf-lt}
 use Rattle.rule_laws.proofs.Readings.{confidence-le}
 use Rattle.text_put.specs.Put.{Put}
 use Rattle.text_print.specs.Columns.{listHeader, rowPrints}
 use Rattle.text_put.proofs.Puts.{put-none, put-then}
 use Rattle.text_put.proofs.Decimals.{decimal-length}
-use Rattle.text_listing.specs.Listed.{rowsPrint, listPrints, rowMost, lineMost}
+use Rattle.text_listing.specs.Listed.{listRow, rowsPrint, listPrints, rowMost, lineMost}
 
 -- a writer keeps the buffer's length
 pub put-length : {out out′ : List ℕ} {at r : ℕ} {xs : List ℕ} → Put out at xs r out′ → length out′ ≡ length out

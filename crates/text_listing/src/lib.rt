@@ -8,10 +8,9 @@ ghost use Rattle.loops.specs.Total.{bit};
 ghost use Rattle.rules.specs.Layout.{bookings};
 ghost use Rattle.rules.specs.Readings.{acceptedBelow};
 ghost use Rattle.rules.specs.Sound.{Ledger};
-ghost use Rattle.rules.specs.Listing.{listRow};
 ghost use Rattle.text_put.specs.Put.{Put};
 ghost use Rattle.text_print.specs.Columns.{rowPrints};
-ghost use Rattle.text_listing.specs.Listed.{rowsPrint, listPrints, rowMost, lineMost};
+ghost use Rattle.text_listing.specs.Listed.{listRow, rowsPrint, listPrints, rowMost, lineMost};
 
 // The most bytes that a listing takes.
 pub const LINE_MOST: usize = 64560;

@@ -1,84 +1,80 @@
--- Whether the workspace is sound is known before every line, and there is room for what the line prints.
-use mathlib.Core.Path.{_≡_, sym}
-use Prim.Native.Nat.{_+_, _-_, _≤_}
+-- What the lines leave in the end is what those that are not yet served leave on the words as they are now.
+use mathlib.Core.Path.{_≡_, sym, ap, _∙_}
+use mathlib.Core.Bool.{true≢false}
+use Prim.Native.Nat.{_-_}
 use native.Mathlib.Omega.{arith}
-use lib.ListN.{length}
+use lib.ListN.{length, drop}
 use lib.Seq.{length-take-le}
 use borrow.Author.Needs.{needs}
 use Rattle.rules.specs.Layout.{size}
 use Rattle.rules.specs.IsSound.{isSound}
-use Rattle.text_listing.specs.Listed.{lineMost}
-use Rattle.text_listing.proofs.Rows.{put-length}
 use Rattle.line_serve.proofs.Known.{zeros-unsound}
-use Rattle.console.specs.Lines.{gathered}
+use Rattle.text_program.specs.Program.{zeros, lines}
+use Rattle.text_program.specs.Piece.{wordsAfter}
+use Rattle.text_program.proofs.Program.{zeros-whole, words-over}
+use Rattle.console.specs.Console.{gatheredMost}
 use Rattle.console.proofs.serve_lines.Statement.{statement}
 use Rattle.console.proofs.serve_lines.Tie as tie
 
 abbrev Inv-loop : tie.InvT-loop
-Inv-loop input w₀ out₀ known₀ at₀ start₀ w out known at start =
-    (length w ≡ size) × (length out ≡ gathered) × (known ≡ isSound w) × (at + lineMost ≤ gathered)
+Inv-loop w₀ input out₀ known₀ start₀ w out known start =
+    (length w ≡ size) × (length out ≡ gatheredMost) × (known ≡ isSound w) × (wordsAfter zeros (lines input) ≡ wordsAfter w (lines (drop start input)))
+    × (length w₀ ≡ size)
 
 abbrev μ-loop : tie.MeasureT-loop
-μ-loop input w₀ out₀ known₀ at₀ start₀ w out known at start = length input - start
+μ-loop w₀ input out₀ known₀ start₀ w out known start = length input - start
 
 loop-holds : tie.Need-loop-holds Inv-loop μ-loop
-loop-holds c = (search needs, search needs, sym zeros-unsound, search needs)
+loop-holds c =
+    let pre = c .before .before .before .pre in
+    let whole = ap length (pre .words) ∙ zeros-whole in
+    let after = ap (λ w. wordsAfter w (lines (c .before .before .before .args .input .now))) (sym (pre .words)) in
+    (whole, pre .room, sym (ap isSound (pre .words) ∙ zeros-unsound), after, whole)
 
-line-end-requires : tie.Need-line-end-requires Inv-loop μ-loop
-line-end-requires c κs = search needs
+serve-piece-requires : tie.Need-serve-piece-requires Inv-loop μ-loop
+serve-piece-requires c κs =
+    let inv = c .before .before .before .loop .inv in
+    record { whole = inv .0; told = inv .2; room = omega (arith, inv .1) }
 
-slice-aggregate-serve : tie.Need-slice-aggregate-serve Inv-loop μ-loop
-slice-aggregate-serve c = search needs
-
-sub-serve : tie.Need-sub-serve Inv-loop μ-loop
-sub-serve c = search needs
-
-part-serve-start : tie.Need-part-serve-start Inv-loop μ-loop
-part-serve-start c = search needs
-
-part-serve-end : tie.Need-part-serve-end Inv-loop μ-loop
-part-serve-end c = search needs
-
-slice-aggregate-serve-2 : tie.Need-slice-aggregate-serve-2 Inv-loop μ-loop
-slice-aggregate-serve-2 c = search needs
-
-serve-requires : tie.Need-serve-requires Inv-loop μ-loop
-serve-requires c κs =
-    let inv = c .before .before .before .before .before .loop .inv in
-    record { whole = inv .0; told = inv .2; room = omega arith }
-
-slice-aggregate-make-room : tie.Need-slice-aggregate-make-room Inv-loop μ-loop
-slice-aggregate-make-room c = search needs
-
-make-room-requires : tie.Need-make-room-requires Inv-loop μ-loop
-make-room-requires c κs =
-    let D = c .before .before .before in
-    let inv = D .before .before .before .before .before .before .loop .inv in
-    (omega (arith, put-length (D .serve .ensures .put), inv .1), omega (arith, D .serve .ensures .within, inv .3))
-
-add-start : tie.Need-add-start Inv-loop μ-loop
-add-start c = search needs
-
-loop-less : tie.Need-loop-less Inv-loop μ-loop
-loop-less c = search needs
-
-loop-again : tie.Need-loop-again Inv-loop μ-loop
-loop-again c =
-    let D = c .before .before .before .before in
-    let inv = D .before .before .before .before .before .before .loop .inv in
-    (omega (arith, D .serve .kept .0, inv .0), omega (arith, put-length (D .serve .ensures .put), inv .1), D .serve .ensures .told, c .make-room .ensures)
-
-array-share-prefix-out : tie.Need-array-share-prefix-out Inv-loop μ-loop
-array-share-prefix-out c = search needs
+slice-reshare-prefix-write-all : tie.Need-slice-reshare-prefix-write-all Inv-loop μ-loop
+slice-reshare-prefix-write-all c = search needs
 
 slice-aggregate-write-all : tie.Need-slice-aggregate-write-all Inv-loop μ-loop
-slice-aggregate-write-all c = sym (length-take-le _ _ (omega arith))
+slice-aggregate-write-all c = sym (length-take-le _ _ (c .before .before .before .before .before .serve-piece .ensures .within))
 
 write-all-requires : tie.Need-write-all-requires Inv-loop μ-loop
 write-all-requires c κs = search needs
 
-returns : tie.Need-returns Inv-loop μ-loop
-returns c = search needs
+same-length : tie.Need-same-length Inv-loop μ-loop
+same-length c = search needs
+
+same-length-2 : tie.Need-same-length-2 Inv-loop μ-loop
+same-length-2 c = search needs
+
+failed : tie.Need-returns Inv-loop μ-loop
+failed c e = absurd (true≢false (sym e))
+
+loop-less : tie.Need-loop-less Inv-loop μ-loop
+loop-less c =
+    let P = c .before .before .before .before .before .before .before in
+    omega (arith, P .serve-piece .ensures .onward (P .before .before .before .loop-test .taken))
+
+loop-again : tie.Need-loop-again Inv-loop μ-loop
+loop-again c =
+    let P = c .before .before .before .before .before .before .before in
+    let inv = P .before .before .before .before .loop .inv in
+    (search needs, search needs, P .serve-piece .ensures .told, inv .3 ∙ P .serve-piece .ensures .after, inv .4)
+
+same-length-3 : tie.Need-same-length-3 Inv-loop μ-loop
+same-length-3 c = search needs
+
+same-length-4 : tie.Need-same-length-4 Inv-loop μ-loop
+same-length-4 c = search needs
+
+done : tie.Need-returns-2 Inv-loop μ-loop
+done c e =
+    let loop = c .before .loop in
+    sym (loop .inv .3 ∙ words-over (loop .w) (c .before .before .before .before .before .args .input .now) (loop .start) (omega arith))
 
 pub serve-lines-spec : {M : Type 1} → statement M
 serve-lines-spec =
@@ -87,19 +83,15 @@ serve-lines-spec =
     Inv-loop
     μ-loop
     loop-holds
-    line-end-requires
-    slice-aggregate-serve
-    sub-serve
-    part-serve-start
-    part-serve-end
-    slice-aggregate-serve-2
-    serve-requires
-    slice-aggregate-make-room
-    make-room-requires
-    add-start
-    loop-less
-    loop-again
-    array-share-prefix-out
+    serve-piece-requires
+    slice-reshare-prefix-write-all
     slice-aggregate-write-all
     write-all-requires
-    returns)
+    same-length
+    same-length-2
+    failed
+    loop-less
+    loop-again
+    same-length-3
+    same-length-4
+    done)

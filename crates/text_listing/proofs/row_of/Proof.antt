@@ -1,8 +1,8 @@
 -- Each field is what its reader says; the mark of booking i among all accepted ones is its acceptance.
 use borrow.Author.Needs.{needs}
 use Rattle.rules.specs.Layout.{bookings}
-use Rattle.rules.specs.Listing.{listRow}
 use Rattle.rule_laws.proofs.Accepted.{acceptedBelow-is}
+use Rattle.text_listing.specs.Listed.{listRow}
 use Rattle.text_listing.proofs.row_of.Statement.{statement}
 use Rattle.text_listing.proofs.row_of.Tie as tie
 

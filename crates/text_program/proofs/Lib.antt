@@ -1,0 +1,5 @@
+-- Laws of the program and its pieces, cited by the proofs of the functions. They assume nothing.
+pub mod Lines
+pub mod Pieces
+pub mod Program
+pub mod Example

@@ -1,0 +1,33 @@
+-- Document 01, "The text program": the whole program, from the bytes of standard input to the bytes of standard output.
+use Prim.Native.Nat.{ℕ}
+use mathlib.Core.Bool.{true, false, cond}
+use mathlib.Core.List.{List, [], _∷_, _++_}
+use lib.ListN.{length, replicate}
+use lib.Dec.{eqb, ltb}
+use Rattle.rules.specs.Layout.{size}
+use Rattle.text_bytes.specs.Bytes.{lineFeed}
+use Rattle.text_print.specs.Print.{tooLong}
+use Rattle.line_words.specs.Words.{before}
+use Rattle.line_serve.specs.Serve.{served}
+
+-- how many bytes are read at most
+abbrev pub inputMost : ℕ
+inputMost = 65536
+
+-- the workspace starts all zero
+abbrev pub zeros : List ℕ
+zeros = replicate size 0
+
+-- a line ends at a line feed, and the last may end with the input; nothing after the final line feed, or an empty input, is no line
+unfoldable pub lines : List ℕ → List (List ℕ)
+lines [] = []
+lines (b ∷ input) = elim (eqb b lineFeed) [ true ↦ [] ∷ lines input | false ↦ before b (lines input) ]
+
+-- what the lines print, each on the words that the one before it left
+unfoldable pub printed : List ℕ → List (List ℕ) → List ℕ
+printed w [] = []
+printed w (line ∷ rest) = served w line .prints ++ printed (served w line .words) rest
+
+-- a longer input prints that it is too long, and nothing else
+unfoldable pub program : List ℕ → List ℕ
+program input = cond (ltb inputMost (length input)) tooLong (printed zeros (lines input))
