@@ -1,7 +1,7 @@
 -- Document 01, "The text program": its example, ten lines in and six lines out, computed from the definition of the program.
 -- What each line says is computed here; what its calls do, in crates/text_listing/proofs/Run.antt.
 use mathlib.Core.Path.{_≡_, refl, ap, _∙_}
-use mathlib.Core.List.{List, [], _∷_, _++_}
+use mathlib.Core.List.{List, [], _∷_}
 use Prim.Native.Nat.{ℕ}
 use native.Mathlib.Omega.{arith}
 use Rattle.loops.specs.Search.{firstFrom}

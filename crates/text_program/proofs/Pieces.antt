@@ -1,12 +1,11 @@
 -- Laws of a piece: what is gathered before and after a line, and when no line is served any more.
 use mathlib.Core.Path.{_≡_, refl, sym, ap, ap₂, subst, _∙_}
-use mathlib.Core.Bool.{Bool, true, false}
-use mathlib.Core.List.{List, [], _∷_, _++_, append-assoc, append-nil}
+use mathlib.Core.Bool.{Bool}
+use mathlib.Core.List.{List, [], _∷_, _++_, append-assoc}
 use Prim.Native.Nat.{ℕ, suc, _+_, _<_, _≤_}
-use native.Mathlib.Nat.{zero-add}
 use native.Mathlib.Omega.{arith}
-use lib.ListN.{length, take, drop, length-append, drop-of-length-le}
-use lib.Seq.{sets, sets-eq, length-sets, take-at, length-take-le}
+use lib.ListN.{length, take, drop, drop-of-length-le}
+use lib.Seq.{sets-eq, take-at, length-take-le}
 use borrow.Author.Tests.{le-leb, lt-leb}
 use Rattle.rules.specs.Layout.{size}
 use Rattle.rules.specs.IsSound.{isSound}
@@ -16,7 +15,6 @@ use Rattle.text_listing.specs.Listed.{lineMost}
 use Rattle.text_listing.proofs.Rows.{put-length}
 use Rattle.line_serve.specs.declared.Served.{Served}
 use Rattle.line_serve.specs.Serve.{served, Serves as LineServes}
-use Rattle.text_program.specs.declared.Piece.{Piece}
 use Rattle.text_program.specs.Program.{lines, printed}
 use Rattle.text_program.specs.Piece.{lineEnd, wordsAfter, Gathered, more, gathered, pieceOf, Serves}
 use Rattle.text_program.proofs.Lines.{end-le, lines-at}

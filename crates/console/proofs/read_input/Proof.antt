@@ -1,6 +1,6 @@
 -- Each turn reads some bytes more, so fewer places are left; the end and a fault leave the loop.
 use mathlib.Core.Path.{_≡_, subst}
-use Prim.Native.Nat.{_+_, _-_, _≤_}
+use Prim.Native.Nat.{_-_, _≤_}
 use native.Mathlib.Omega.{arith}
 use lib.ListN.{length, take, drop, length-take, length-drop}
 use borrow.Author.Needs.{needs}

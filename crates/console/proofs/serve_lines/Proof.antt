@@ -8,7 +8,6 @@ use lib.Seq.{length-take-le}
 use borrow.Author.Needs.{needs}
 use Rattle.rules.specs.Layout.{size}
 use Rattle.rules.specs.IsSound.{isSound}
-use Rattle.text_listing.proofs.Rows.{put-length}
 use Rattle.line_serve.proofs.Known.{zeros-unsound}
 use Rattle.text_program.specs.Program.{zeros, lines}
 use Rattle.text_program.specs.Piece.{wordsAfter}
