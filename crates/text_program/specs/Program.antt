@@ -10,15 +10,15 @@ use Rattle.text_print.specs.Print.{tooLong}
 use Rattle.line_words.specs.Words.{before}
 use Rattle.line_serve.specs.Serve.{served}
 
--- how many bytes are read at most
+-- the longest input that is taken
 abbrev pub inputMost : ℕ
 inputMost = 65536
 
--- the workspace starts all zero
+-- the words that the first line is served on
 abbrev pub zeros : List ℕ
 zeros = replicate size 0
 
--- a line ends at a line feed, and the last may end with the input; nothing after the final line feed, or an empty input, is no line
+-- the input cut at its line feeds: each closes a line, and what is left after the last of them is one more, unless it is empty
 unfoldable pub lines : List ℕ → List (List ℕ)
 lines [] = []
 lines (b ∷ input) = elim (eqb b lineFeed) [ true ↦ [] ∷ lines input | false ↦ before b (lines input) ]
@@ -28,6 +28,6 @@ unfoldable pub printed : List ℕ → List (List ℕ) → List ℕ
 printed w [] = []
 printed w (line ∷ rest) = served w line .prints ++ printed (served w line .words) rest
 
--- a longer input prints that it is too long, and nothing else
+-- an input over the limit is answered as a whole: none of its lines is served
 unfoldable pub program : List ℕ → List ℕ
 program input = cond (ltb inputMost (length input)) tooLong (printed zeros (lines input))
