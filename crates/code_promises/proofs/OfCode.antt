@@ -21,7 +21,7 @@ use Rattle.code_promises.specs.OfCode.{
   Done,
   AnswerTold,
   Made,
-  Listed,
+  ListedFirst,
   CodeLawful,
   OutcomeUnique,
   CodeListed,
@@ -59,7 +59,7 @@ outcome-unique d e m k c w =
       gave d m .words ∙ ap (λ o. o .words) same ∙ sym (gave e k .words),
     )
 
-listed : (c : Call) (w : List ℕ) → Listed c w (number (outcomeOf c w .answer))
+listed : (c : Call) (w : List ℕ) → ListedFirst c w (number (outcomeOf c w .answer))
 unfolding outcomeOf
 listed (Open s) w = refused-listed .opening w s
 listed (Book name slot parents) w = refused-listed .booking w name slot parents
@@ -68,7 +68,7 @@ listed (Ask what name) w = refused-listed .reading what w name
 
 pub code-listed : CodeListed function
 unfolding CodeListed
-code-listed d m = subst (Listed (d .call) (d .before)) (sym (gave d m .told .numbered)) (listed (d .call) (d .before))
+code-listed d m = subst (ListedFirst (d .call) (d .before)) (sym (gave d m .told .numbered)) (listed (d .call) (d .before))
 
 pub code-refuses : CodeRefuses function
 unfolding CodeRefuses RefusedKeeps

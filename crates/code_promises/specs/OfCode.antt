@@ -37,11 +37,11 @@ unfoldable pub AnswerTold : Type 0
 AnswerTold = (r q : Answer) → number r ≡ number q → value r ≡ value q → r ≡ q
 
 -- the number is that of the call's first listed case that applies, and 0 if none does
-abbrev pub Listed : Call → List ℕ → ℕ → Type 0
-Listed (Open s) w = OpenListed w s
-Listed (Book name slot parents) w = BookListed w name slot parents
-Listed (Poll name votes) w = PollListed w name votes
-Listed (Ask what name) w = ReadingListed w name
+abbrev pub ListedFirst : Call → List ℕ → ℕ → Type 0
+ListedFirst (Open s) w = OpenListed w s
+ListedFirst (Book name slot parents) w = BookListed w name slot parents
+ListedFirst (Poll name votes) w = PollListed w name votes
+ListedFirst (Ask what name) w = ReadingListed w name
 
 -- demands 2 and 3 of words with their history
 pub record Kept (w : List ℕ) (h : History) : Type 0 where
@@ -75,7 +75,7 @@ module _ {Name : Type 0} (function : Name → Function) where
 
   -- each refusal comes exactly in its listed case, the first in the order
   unfoldable pub CodeListed : Type 0
-  CodeListed = (d : Done) → Made d → Listed (d .call) (d .before) (d .number)
+  CodeListed = (d : Done) → Made d → ListedFirst (d .call) (d .before) (d .number)
 
   -- a refused call has changed no word, and its value is 0
   unfoldable pub CodeRefuses : Type 0

@@ -11,41 +11,41 @@ use Rattle.line_number.specs.Numbers.{valueOf, isNumber, numberRead, voteRead}
 use Rattle.line_keyword.specs.Keywords.{isSame}
 use Rattle.line_scan.specs.Lists.{leading, manyOf}
 use Rattle.line_parse.specs.declared.command.Command.the-variants.{Open, Book, Poll, Read, List as ListAll, Bad}
-use Rattle.line_parse.specs.Line.{Said, alone, openSays, readSays, bookSays, pollSays, lineSays}
+use Rattle.line_parse.specs.Line.{Said, bare, openSays, readSays, bookSays, pollSays, lineSays}
 
 unfoldable says : String → Said
 says line = lineSays (bytes line)
 
 abbrev bad : Said
-bad = alone Bad
+bad = bare Bad
 
 good-lines :
-    (says "open 3 2 1 2" ≡ alone (Open (record { k = 3; a = 2; beta1 = 1; beta2 = 2 })))
+    (says "open 3 2 1 2" ≡ bare (Open (record { k = 3; a = 2; beta1 = 1; beta2 = 2 })))
     × (says "book 4 10 1 2" ≡ record { command = Book 4 10 2; parents = 1 ∷ 2 ∷ []; votes = [] })
-    × (says "book 4 10" ≡ alone (Book 4 10 0))
+    × (says "book 4 10" ≡ bare (Book 4 10 0))
     × (says "poll 2 1 1 -1" ≡ record { command = Poll 2 3; parents = []; votes = 1 ∷ 1 ∷ 255 ∷ [] })
-    × (says "poll 2" ≡ alone (Poll 2 0))
-    × (says "query 1" ≡ alone (Read Query 1))
-    × (says "accepted 1" ≡ alone (Read Accepted 1))
-    × (says "lead 1" ≡ alone (Read Lead 1))
-    × (says "confidence 1" ≡ alone (Read Confidence 1))
-    × (says "size 1" ≡ alone (Read Size 1))
-    × (says "list" ≡ alone ListAll)
+    × (says "poll 2" ≡ bare (Poll 2 0))
+    × (says "query 1" ≡ bare (Read Query 1))
+    × (says "accepted 1" ≡ bare (Read Accepted 1))
+    × (says "lead 1" ≡ bare (Read Lead 1))
+    × (says "confidence 1" ≡ bare (Read Confidence 1))
+    × (says "size 1" ≡ bare (Read Size 1))
+    × (says "list" ≡ bare ListAll)
 unfolding says lineSays words wordEnd wordsAfter valueOf isNumber numberRead voteRead isSame leading manyOf openSays readSays bookSays pollSays firstFrom upTo
 good-lines = (refl, refl, refl, refl, refl, refl, refl, refl, refl, refl, refl)
 
 -- the limits of numbers: names, everything else, and twenty digits
 numbers :
-    (says "query 18446744073709551615" ≡ alone (Read Query 18446744073709551615))
+    (says "query 18446744073709551615" ≡ bare (Read Query 18446744073709551615))
     × (says "query 18446744073709551616" ≡ bad)
     × (says "query 99999999999999999999" ≡ bad)
-    × (says "query 00000000000000000007" ≡ alone (Read Query 7))
+    × (says "query 00000000000000000007" ≡ bare (Read Query 7))
     × (says "query 000000000000000000007" ≡ bad)
     × (says "query -1" ≡ bad)
     × (says "query 1a" ≡ bad)
-    × (says "book 1 65535" ≡ alone (Book 1 65535 0))
+    × (says "book 1 65535" ≡ bare (Book 1 65535 0))
     × (says "book 1 65536" ≡ bad)
-    × (says "open 65535 0 0 0" ≡ alone (Open (record { k = 65535; a = 0; beta1 = 0; beta2 = 0 })))
+    × (says "open 65535 0 0 0" ≡ bare (Open (record { k = 65535; a = 0; beta1 = 0; beta2 = 0 })))
     × (says "open 65536 0 0 0" ≡ bad)
 unfolding says lineSays words wordEnd wordsAfter valueOf isNumber numberRead voteRead isSame leading manyOf openSays readSays bookSays pollSays firstFrom upTo
 numbers = (refl, refl, refl, refl, refl, refl, refl, refl, refl, refl, refl)

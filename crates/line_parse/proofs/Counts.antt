@@ -28,7 +28,7 @@ use Rattle.line_scan.specs.Lists.{openMost, parentsMost, votesMost, leading, ma
 use Rattle.line_scan.proofs.Leading.{many-count, leading-length}
 use Rattle.line_parse.specs.declared.command.Command.{Command}
 use Rattle.line_parse.specs.declared.command.Command.the-variants.{Open, Book, Poll, Read, List as ListAll, Bad}
-use Rattle.line_parse.specs.Line.{nothing, Said, alone, settingTyped, openWith, openSays, readSays, bookWith, bookSays, pollWith, pollSays, keywordSays, wordsSay, lineSays}
+use Rattle.line_parse.specs.Line.{nothing, Said, bare, settingTyped, openWith, openSays, readSays, bookWith, bookSays, pollWith, pollSays, keywordSays, wordsSay, lineSays}
 use Rattle.line_parse.proofs.Whole.{number-holds}
 
 -- the count of a booking is that of its parents, within the limit; likewise a poll's votes
@@ -47,7 +47,7 @@ pub data Listless : Command → Type 0 where
   lists : Listless ListAll
   bad : Listless Bad
 
-listless-counted : (c : Command) → Listless c → CountsFit (alone c)
+listless-counted : (c : Command) → Listless c → CountsFit (bare c)
 listless-counted c (opens s) = record { books = λ name slot n e. absurd (clash (cc)); polls = λ name n e. absurd (clash (cc)) }
 listless-counted c (reads r x) = record { books = λ name slot n e. absurd (clash (cc)); polls = λ name n e. absurd (clash (cc)) }
 listless-counted c lists = record { books = λ name slot n e. absurd (clash (cc)); polls = λ name n e. absurd (clash (cc)) }
@@ -76,8 +76,8 @@ read-listless r = number-holds Listless Bad _ _ bad (λ name ws. nothing-listles
 book-counted : (ws : List (List ℕ)) → CountsFit (bookSays ws)
 unfolding bookSays
 book-counted =
-    number-holds CountsFit (alone Bad) _ _ (listless-counted Bad bad)
-    (λ name. number-holds CountsFit (alone Bad) _ _ (listless-counted Bad bad) (λ slot ws. go name slot ws (manyOf nameRead parentsMost ws) refl))
+    number-holds CountsFit (bare Bad) _ _ (listless-counted Bad bad)
+    (λ name. number-holds CountsFit (bare Bad) _ _ (listless-counted Bad bad) (λ slot ws. go name slot ws (manyOf nameRead parentsMost ws) refl))
   where
     go : (x s : ℕ) (ws : List (List ℕ)) (m : Many) → manyOf nameRead parentsMost ws ≡ m
         → CountsFit (record { command = bookWith x s m; parents = leading nameRead parentsMost ws; votes = [] })
@@ -92,7 +92,7 @@ book-counted =
 
 poll-counted : (ws : List (List ℕ)) → CountsFit (pollSays ws)
 unfolding pollSays
-poll-counted = number-holds CountsFit (alone Bad) _ _ (listless-counted Bad bad) (λ name ws. go name ws (manyOf voteRead votesMost ws) refl)
+poll-counted = number-holds CountsFit (bare Bad) _ _ (listless-counted Bad bad) (λ name ws. go name ws (manyOf voteRead votesMost ws) refl)
   where
     go : (x : ℕ) (ws : List (List ℕ)) (m : Many) → manyOf voteRead votesMost ws ≡ m
         → CountsFit (record { command = pollWith x m; parents = []; votes = leading voteRead votesMost ws })

@@ -15,10 +15,10 @@ use Rattle.line_parse.specs.declared.command.Command.the-variants.{Bad}
 use Rattle.line_number.specs.Numbers.{nameRead, voteRead}
 use Rattle.line_scan.specs.Lists.{parentsMost, votesMost, Listed}
 use Rattle.line_parse.specs.Line.{
-  number,
+  withNumber,
   nothing,
   Said,
-  alone,
+  bare,
   bookWith,
   bookWords,
   pollWith,
@@ -41,14 +41,14 @@ module _ (reader : List ℕ → Number) (line : List ℕ) (at : ℕ) where
           absurd (let z : _≡_ {A = ℕ} 0 1 = cc in omega arith)
 
   pub number-next : {A : Type 0} (bad : A) (rest : ℕ → List (List ℕ) → A) (v e : ℕ) → stepOf reader line at ≡ Next v e
-      → number bad reader (wordsAfter line at) rest ≡ rest v (wordsAfter line e)
+      → withNumber bad reader (wordsAfter line at) rest ≡ rest v (wordsAfter line e)
   number-next bad rest v e q = let s = stepped v e q in rw (s .word, s .value)
 
   pub number-stop : {A : Type 0} (bad : A) (rest : ℕ → List (List ℕ) → A) → stepOf reader line at ≡ Stop
-      → number bad reader (wordsAfter line at) rest ≡ bad
+      → withNumber bad reader (wordsAfter line at) rest ≡ bad
   number-stop {A} bad rest q = go (decLt at (length line))
     where
-      go : Dec (at < length line) → number bad reader (wordsAfter line at) rest ≡ bad
+      go : Dec (at < length line) → withNumber bad reader (wordsAfter line at) rest ≡ bad
       go (yes h) = rw (wordsAfter-next line at h, step-stop reader line at h q)
       go (no h) = rw (wordsAfter-end line at (omega arith))
 
@@ -62,10 +62,10 @@ module _ (line : List ℕ) (at : ℕ) {A : Type 0} (bad a : A) where
 -- ---- what the buffers then hold
 
 -- a bad line that read no list leaves its buffer
-pub booked-bad : {said : Said} (parents : List ℕ) → said ≡ alone Bad → BookRead said parents Bad parents
+pub booked-bad : {said : Said} (parents : List ℕ) → said ≡ bare Bad → BookRead said parents Bad parents
 booked-bad parents e = record { answer = sym (ap (λ s. s .command) e); after = sym (ap (λ s. sets parents 0 (s .parents)) e) }
 
-pub polled-bad : {said : Said} (votes : List ℕ) → said ≡ alone Bad → PollRead said votes Bad votes
+pub polled-bad : {said : Said} (votes : List ℕ) → said ≡ bare Bad → PollRead said votes Bad votes
 polled-bad votes e = record { answer = sym (ap (λ s. s .command) e); after = sym (ap (λ s. sets votes 0 (s .votes)) e) }
 
 -- a list that was read is the command's, whether or not it made a good line

@@ -11,7 +11,7 @@ use Rattle.line_parse.specs.declared.command.Command.the-variants.{Bad}
 use Rattle.line_keyword.specs.declared.Keyword.{Keyword}
 use Rattle.line_words.specs.Words.{wordEnd, wordsAfter}
 use Rattle.line_keyword.specs.Keywords.{keywordOf}
-use Rattle.line_parse.specs.Line.{valued, number, alone, bookSays, pollSays, keywordSays, wordsSay, lineSays, BookRead, PollRead, Parsed}
+use Rattle.line_parse.specs.Line.{valued, withNumber, bare, bookSays, pollSays, keywordSays, wordsSay, lineSays, BookRead, PollRead, Parsed}
 use Rattle.line_scan.proofs.Split.{words-first}
 
 pub line-says : (line : List ℕ) (end : ℕ) (k : Keyword) → end ≡ wordEnd line → k ≡ keywordOf (take end line) → lineSays line ≡ keywordSays k (wordsAfter line end)
@@ -24,7 +24,7 @@ line-says line end k e q =
 
 -- what holds of a bad line and of every rest holds of a number and its rest
 pub number-holds : {A : Type 0} (P : A → Type 0) (none : A) (reader : List ℕ → Number) (rest : ℕ → List (List ℕ) → A) → P none
-    → ((v : ℕ) (ws : List (List ℕ)) → P (rest v ws)) → (ws : List (List ℕ)) → P (number none reader ws rest)
+    → ((v : ℕ) (ws : List (List ℕ)) → P (rest v ws)) → (ws : List (List ℕ)) → P (withNumber none reader ws rest)
 number-holds P none reader rest h each [] = h
 number-holds P none reader rest h each (w ∷ ws) = go (reader w)
   where
@@ -34,16 +34,16 @@ number-holds P none reader rest h each (w ∷ ws) = go (reader w)
 
 book-votes : (ws : List (List ℕ)) → (bookSays ws) .votes ≡ []
 unfolding bookSays
-book-votes = number-holds (λ s. s .votes ≡ []) (alone Bad) _ _ refl (λ name. number-holds (λ s. s .votes ≡ []) (alone Bad) _ _ refl (λ slot ws. refl))
+book-votes = number-holds (λ s. s .votes ≡ []) (bare Bad) _ _ refl (λ name. number-holds (λ s. s .votes ≡ []) (bare Bad) _ _ refl (λ slot ws. refl))
 
 poll-parents : (ws : List (List ℕ)) → (pollSays ws) .parents ≡ []
 unfolding pollSays
-poll-parents = number-holds (λ s. s .parents ≡ []) (alone Bad) _ _ refl (λ name ws. refl)
+poll-parents = number-holds (λ s. s .parents ≡ []) (bare Bad) _ _ refl (λ name ws. refl)
 
 -- ---- what the buffers then hold
 
 module _ {line : List ℕ} (parents votes : List ℕ) {r : Command} where
-  pub parsed-alone : (c : Command) → lineSays line ≡ alone c → r ≡ c → Parsed line parents votes r parents votes
+  pub parsed-alone : (c : Command) → lineSays line ≡ bare c → r ≡ c → Parsed line parents votes r parents votes
   parsed-alone c e q =
       record {
         answer = q ∙ sym (ap (λ s. s .command) e);

@@ -36,9 +36,9 @@ abbrev pub valued : {A : Type 0} → A → Number → (ℕ → A) → A
 valued bad (Value v) rest = rest v
 valued bad NoNumber rest = bad
 
-abbrev pub number : {A : Type 0} → A → (List ℕ → Number) → List (List ℕ) → (ℕ → List (List ℕ) → A) → A
-number bad reader [] rest = bad
-number bad reader (w ∷ ws) rest = valued bad (reader w) (λ v. rest v ws)
+abbrev pub withNumber : {A : Type 0} → A → (List ℕ → Number) → List (List ℕ) → (ℕ → List (List ℕ) → A) → A
+withNumber bad reader [] rest = bad
+withNumber bad reader (w ∷ ws) rest = valued bad (reader w) (λ v. rest v ws)
 
 -- no further word
 abbrev pub nothing : {A : Type 0} → A → List (List ℕ) → A → A
@@ -53,8 +53,8 @@ pub record Said : Type 0 where
   pub parents : List ℕ
   pub votes : List ℕ
 
-abbrev pub alone : Command → Said
-alone c = record { command = c; parents = []; votes = [] }
+abbrev pub bare : Command → Said
+bare c = record { command = c; parents = []; votes = [] }
 
 -- k a β1 β2
 abbrev pub settingTyped : List ℕ → Setting
@@ -74,7 +74,7 @@ openSays ws = openWith (manyOf shortRead openMost ws) (leading shortRead openMos
 
 -- a name
 unfoldable pub readSays : Reading → List (List ℕ) → Command
-readSays reading ws = number Bad nameRead ws (λ name ws. nothing Bad ws (Read reading name))
+readSays reading ws = withNumber Bad nameRead ws (λ name ws. nothing Bad ws (Read reading name))
 
 abbrev pub bookWith : ℕ → ℕ → Many → Command
 bookWith name slot (Count n) = Book name slot n
@@ -86,7 +86,7 @@ bookWords name slot ws =
 
 -- name slot parents
 unfoldable pub bookSays : List (List ℕ) → Said
-bookSays ws = number (alone Bad) nameRead ws (λ name ws. number (alone Bad) shortRead ws (λ slot ws. bookWords name slot ws))
+bookSays ws = withNumber (bare Bad) nameRead ws (λ name ws. withNumber (bare Bad) shortRead ws (λ slot ws. bookWords name slot ws))
 
 abbrev pub pollWith : ℕ → Many → Command
 pollWith name (Count n) = Poll name n
@@ -98,20 +98,20 @@ pollWords name ws =
 
 -- name votes
 unfoldable pub pollSays : List (List ℕ) → Said
-pollSays ws = number (alone Bad) nameRead ws (λ name ws. pollWords name ws)
+pollSays ws = withNumber (bare Bad) nameRead ws (λ name ws. pollWords name ws)
 
 -- ---- the line
 
 abbrev pub keywordSays : Keyword → List (List ℕ) → Said
-keywordSays openWord ws = alone (openSays ws)
+keywordSays openWord ws = bare (openSays ws)
 keywordSays bookWord ws = bookSays ws
 keywordSays pollWord ws = pollSays ws
-keywordSays (readWord reading) ws = alone (readSays reading ws)
-keywordSays listWord ws = alone (nothing Bad ws ListAll)
-keywordSays Unknown ws = alone Bad
+keywordSays (readWord reading) ws = bare (readSays reading ws)
+keywordSays listWord ws = bare (nothing Bad ws ListAll)
+keywordSays Unknown ws = bare Bad
 
 abbrev pub wordsSay : List (List ℕ) → Said
-wordsSay [] = alone Bad
+wordsSay [] = bare Bad
 wordsSay (w ∷ ws) = keywordSays (keywordOf w) ws
 
 unfoldable pub lineSays : List ℕ → Said

@@ -19,7 +19,7 @@ use Rattle.rules.specs.Book.{lookUp, numberOf}
 use Rattle.rules.specs.Calls.{acceptedCall}
 use Rattle.rules.specs.Sound.{Sound, Ledger}
 use Rattle.rule_laws.proofs.Lookup.{found-is}
-use Rattle.rules.specs.InWords.{FirstArm, SecondArm}
+use Rattle.rules.specs.AsRead.{FirstArm, SecondArm}
 use Rattle.rule_laws.proofs.Slots.{slot-held}
 use Rattle.rule_laws.proofs.Accepted.{accepted-is}
 use Rattle.promises.specs.Acceptance.{AcceptedOnce, AcceptedCallOnce}

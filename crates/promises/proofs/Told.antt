@@ -18,7 +18,7 @@ use Rattle.rules.specs.Calls.{readingCall}
 use Rattle.rule_laws.proofs.Lookup.{found-is}
 use Rattle.rule_laws.proofs.Tested.{reading-found}
 use Rattle.rule_laws.proofs.Ancestry.{marks→Reaches, Reaches→marks}
-use Rattle.rules.specs.InWords.{FirstArm, SecondArm}
+use Rattle.rules.specs.AsRead.{FirstArm, SecondArm}
 use Rattle.rule_laws.proofs.Accepted.{accepted-is, accepted-genesis}
 use Rattle.rule_laws.proofs.Readings.{query-is, rivalsMost-is}
 use Rattle.promises.specs.Told.{Sized, nobody, counts, passes, Told, ReadingsTold}

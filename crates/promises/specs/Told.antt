@@ -10,7 +10,7 @@ use Rattle.rules.specs.Layout.{bookings, nameOf, slotOf, confidenceOf, preferre
 use Rattle.rules.specs.Ancestry.{Reaches}
 use Rattle.rules.specs.Sound.{Ledger}
 use Rattle.rules.specs.Calls.{queryCall, acceptedCall, leadCall, confidenceCall, sizeCall}
-use Rattle.rules.specs.InWords.{FirstArm, SecondArm, MostOfRivals}
+use Rattle.rules.specs.AsRead.{FirstArm, SecondArm, MostOfRivals}
 
 -- c of the bookings below n are in the ancestry of i
 pub data Sized (w : List ℕ) (i : ℕ) : ℕ → ℕ → Type 0 where

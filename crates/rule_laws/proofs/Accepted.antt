@@ -17,7 +17,7 @@ use Rattle.rules.specs.Layout.{mostBookings, mostParents, none, bookings, paren
 use Rattle.rules.specs.Ancestry.{Parent, isMember, mark, unmarked}
 use Rattle.rules.specs.Readings.{parentsAccepted, firstArm, secondArm, acceptOne, acceptedBelow, acceptedOf}
 use Rattle.rules.specs.Sound.{Sound}
-use Rattle.rules.specs.InWords.{FirstArm, SecondArm}
+use Rattle.rules.specs.AsRead.{FirstArm, SecondArm}
 use Rattle.loops.proofs.Bools.{and-both, or-right, or-else, or-either}
 use Rattle.rule_laws.proofs.Ancestry.{length-unmarked, unmarked-zero, Parent-lt}
 

@@ -17,7 +17,7 @@ use Rattle.rules.specs.IsSound.{chits}
 use Rattle.rules.specs.Ancestry.{Reaches, isMember, ancestry}
 use Rattle.rules.specs.Sound.{Sound}
 use Rattle.rules.specs.Readings.{isPreferred, queryOf, acceptedOf, isRival, rivalConfidence, rivalsMost, leadOf, sizeOf}
-use Rattle.rules.specs.InWords.{Rival, MostOfRivals}
+use Rattle.rules.specs.AsRead.{Rival, MostOfRivals}
 use Rattle.loops.proofs.Bools.{or-right, or-else}
 use Rattle.rule_laws.proofs.Ancestry.{Reaches-le, marks→Reaches, Reaches→marks, member-self}
 

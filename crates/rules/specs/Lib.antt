@@ -8,6 +8,6 @@ pub mod Open
 pub mod Book
 pub mod Poll
 pub mod Readings
-pub mod InWords
+pub mod AsRead
 pub mod Calls
 pub mod Listing

@@ -5,7 +5,7 @@ use Rattle.line_parse.specs.declared.command.Command.the-variants.{Bad}
 use Rattle.line_scan.specs.declared.many.Many.the-variants.{Count, Refused}
 use Rattle.line_words.specs.Words.{wordsAfter}
 use Rattle.line_number.specs.Numbers.{shortMost, nameRead, shortRead}
-use Rattle.line_parse.specs.Line.{alone, bookWords, bookSays}
+use Rattle.line_parse.specs.Line.{bare, bookWords, bookSays}
 use Rattle.line_number.proofs.Digits.{number-le}
 use Rattle.line_parse.proofs.Grammar.{stepped, number-next, number-stop, booked-bad, booked-listed}
 use borrow.Author.Needs.{needs}
@@ -26,7 +26,7 @@ unfolding bookSays
 no-name c =
     let N = c .before .before in
     let S = N .before .before .before .args in
-    booked-bad (S .parents .now) (number-stop nameRead (S .line .now) (S .at) (alone Bad) _ (sym (N .next-number .ensures) ∙ c .enum-told .given .1))
+    booked-bad (S .parents .now) (number-stop nameRead (S .line .now) (S .at) (bare Bad) _ (sym (N .next-number .ensures) ∙ c .enum-told .given .1))
 
 next-number-requires-2 : tie.Need-next-number-requires-2
 next-number-requires-2 c κs = search needs
@@ -46,8 +46,8 @@ no-slot c =
     let S = N .before .before .before .args in
     booked-bad
     (S .parents .now)
-    (number-next nameRead (S .line .now) (S .at) (alone Bad) _ _ _ (sym (N .next-number .ensures) ∙ K .name .given .1)
-    ∙ number-stop shortRead (S .line .now) _ (alone Bad) _ (sym (M .next-number2 .ensures) ∙ c .enum-told2 .given .1))
+    (number-next nameRead (S .line .now) (S .at) (bare Bad) _ _ _ (sym (N .next-number .ensures) ∙ K .name .given .1)
+    ∙ number-stop shortRead (S .line .now) _ (bare Bad) _ (sym (M .next-number2 .ensures) ∙ c .enum-told2 .given .1))
 
 cast-slot : tie.Need-cast-slot
 cast-slot c =
@@ -79,8 +79,8 @@ module _ (R : tie.After-read-numbers) where
   says : bookSays (wordsAfter (S .args .line .now) (S .args .at)) ≡ bookWords (K .name .given .0 .0) (T .slot .given .0 .0) (wordsAfter (S .args .line .now) (T .slot .given .0 .1 .0))
   unfolding bookSays
   says =
-      number-next nameRead _ _ (alone Bad) _ _ _ (sym (K .before .before .next-number .ensures) ∙ K .name .given .1)
-      ∙ number-next shortRead _ _ (alone Bad) _ _ _ (sym (T .before .before .next-number2 .ensures) ∙ T .slot .given .1)
+      number-next nameRead _ _ (bare Bad) _ _ _ (sym (K .before .before .next-number .ensures) ∙ K .name .given .1)
+      ∙ number-next shortRead _ _ (bare Bad) _ _ _ (sym (T .before .before .next-number2 .ensures) ∙ T .slot .given .1)
 
 same-length : tie.Need-same-length
 same-length c = search needs

@@ -4,7 +4,7 @@ use Rattle.line_parse.specs.declared.command.Command.the-variants.{Bad}
 use Rattle.line_scan.specs.declared.many.Many.the-variants.{Count, Refused}
 use Rattle.line_words.specs.Words.{wordsAfter}
 use Rattle.line_number.specs.Numbers.{nameRead}
-use Rattle.line_parse.specs.Line.{alone, pollWords, pollSays}
+use Rattle.line_parse.specs.Line.{bare, pollWords, pollSays}
 use Rattle.line_parse.proofs.Grammar.{stepped, number-next, number-stop, polled-bad, polled-listed}
 use borrow.Author.Needs.{needs}
 use Rattle.line_parse.proofs.line.read_poll.Statement.{statement}
@@ -24,7 +24,7 @@ unfolding pollSays
 no-name c =
     let N = c .before .before in
     let S = N .before .before .before .args in
-    polled-bad (S .votes .now) (number-stop nameRead (S .line .now) (S .at) (alone Bad) _ (sym (N .next-number .ensures) ∙ c .enum-told .given .1))
+    polled-bad (S .votes .now) (number-stop nameRead (S .line .now) (S .at) (bare Bad) _ (sym (N .next-number .ensures) ∙ c .enum-told .given .1))
 
 read-votes-requires : tie.Need-read-votes-requires
 read-votes-requires c κs =
@@ -47,7 +47,7 @@ module _ (R : tie.After-read-votes) where
 
   says : pollSays (wordsAfter (S .args .line .now) (S .args .at)) ≡ pollWords (K .name .given .0 .0) (wordsAfter (S .args .line .now) (K .name .given .0 .1 .0))
   unfolding pollSays
-  says = number-next nameRead _ _ (alone Bad) _ _ _ (sym (K .before .before .next-number .ensures) ∙ K .name .given .1)
+  says = number-next nameRead _ _ (bare Bad) _ _ _ (sym (K .before .before .next-number .ensures) ∙ K .name .given .1)
 
 same-length : tie.Need-same-length
 same-length c = search needs
