@@ -29,8 +29,11 @@ int main(void)
     const uint64_t genesis[1] = {0};
     const uint8_t yes[1] = {FILZ_YES};
     uint16_t none[1] = {0};
-    if (filz_open(ws, FILZ_WORDS, 1, 1, 1, 2, &value) + filz_book(ws, FILZ_WORDS, 1, 7, genesis, 1, &value) != FILZ_TAKEN)
+    if (filz_open(ws, FILZ_WORDS, 1, 1, 1, 2, &value) != FILZ_TAKEN
+        || filz_book(ws, FILZ_WORDS, 1, 7, genesis, 1, &value) != FILZ_TAKEN) {
+        fprintf(stderr, "the ledger could not be made\n");
         return 1;
+    }
     memcpy(before, ws, sizeof ws);
     value = 77;
 
