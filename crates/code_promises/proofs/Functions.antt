@@ -98,3 +98,25 @@ function by-filz-accepted = filz-reading code.filz_accepted.Reads.Asked code.fil
 function by-filz-lead = filz-reading code.filz_lead.Reads.Asked code.filz_lead.Reads.Learnt (Ask Lead)
 function by-filz-confidence = filz-reading code.filz_confidence.Reads.Asked code.filz_confidence.Reads.Learnt (Ask Confidence)
 function by-filz-size = filz-reading code.filz_size.Reads.Asked code.filz_size.Reads.Learnt (Ask Size)
+
+-- ---- the function that each face has for a call
+
+abbrev pub of-ledger : Call → Name
+of-ledger (Open s) = by-open
+of-ledger (Book name slot parents) = by-book
+of-ledger (Poll name votes) = by-poll
+of-ledger (Ask Query name) = by-query
+of-ledger (Ask Accepted name) = by-accepted
+of-ledger (Ask Lead name) = by-lead
+of-ledger (Ask Confidence name) = by-confidence
+of-ledger (Ask Size name) = by-size
+
+abbrev pub of-station : Call → Name
+of-station (Open s) = by-filz-open
+of-station (Book name slot parents) = by-filz-book
+of-station (Poll name votes) = by-filz-poll
+of-station (Ask Query name) = by-filz-query
+of-station (Ask Accepted name) = by-filz-accepted
+of-station (Ask Lead name) = by-filz-lead
+of-station (Ask Confidence name) = by-filz-confidence
+of-station (Ask Size name) = by-filz-size

@@ -64,6 +64,17 @@ module _ {Name : Type 0} (function : Name → Function) where
     pub allowed : Allowed (function by .contract)
     pub seen : function by .done allowed ≡ d
 
+  -- function f may make the call c on the words w
+  pub record Makes (f : Name) (c : Call) (w : List ℕ) : Type 0 where
+    pub allowed : Allowed (function f .contract)
+    pub asks : function f .done allowed .call ≡ c
+    pub words : function f .done allowed .before ≡ w
+
+  -- every call on any words may be made by the function that a face has for it, so the promises speak of something. The contracts are over
+  -- all numbers, so also over those that a machine has
+  unfoldable pub CodeCallable : (face : Call → Name) → Type 0
+  CodeCallable face = (c : Call) (w : List ℕ) → Makes (face c) c w
+
   -- each call gives what the law says: number, value and words
   unfoldable pub CodeLawful : Type 0
   CodeLawful = (d : Done) → Made d → Handed (outcomeOf (d .call) (d .before)) (d .number) (d .value) (d .after)

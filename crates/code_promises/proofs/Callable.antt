@@ -1,0 +1,166 @@
+-- What the law gives for a call is an outcome that the contract of its function allows. Assumes nothing.
+use mathlib.Core.Path.{_≡_, refl}
+use mathlib.Core.List.{List, []}
+use Prim.Native.Nat.{ℕ}
+use lib.IntN.{pos}
+use denote.Ref.{RefT}
+use denote.Triple.Clauses.{atExit}
+use borrow.Fn.Kinds.{In, Out}
+use Rattle.terms.specs.declared.setting.Setting.{Setting}
+use Rattle.terms.specs.declared.answer.Reading.the-variants.{Query, Accepted, Lead, Confidence, Size}
+use Rattle.terms.specs.declared.answer.Answer.{Answer}
+use Rattle.terms.specs.Answers.{Outcome, number, value}
+use Rattle.rules.specs.Calls.{openCall, bookCall, pollCall, queryCall, acceptedCall, leadCall, confidenceCall, sizeCall}
+use Rattle.promises.specs.Run.{Call, Open, Book, Poll, Ask}
+use Rattle.station.specs.Returned.{Returned, Handed}
+use Rattle.code_promises.specs.Contract.{contractOf, Allowed, endedBy}
+use Rattle.code_promises.specs.OfCode.{Makes, CodeCallable}
+use Rattle.code_promises.proofs.Functions.{
+  by-open,
+  by-book,
+  by-poll,
+  by-filz-open,
+  by-filz-book,
+  by-filz-poll,
+  function,
+  of-ledger,
+  of-station,
+}
+use Rattle.code_promises.proofs as code
+
+-- a reference to what is lent; no contract asks where it stands
+abbrev lent : {X : Type 0} → X → RefT X
+lent x = record { ptr = (0, 0); name = 0; now = x }
+
+-- the number and the value of an answer are its own
+own : (a : Answer) → Returned a (number a) (value a)
+own a = record { numbered = refl; valued = refl }
+
+handed : (o : Outcome) → Handed o (number (o .answer)) (value (o .answer)) (o .words)
+handed o = record { told = own (o .answer); words = refl }
+
+-- ---- the ledger's functions
+
+open-callable : (s : Setting) (w : List ℕ) → Makes function by-open (Open s) w
+open-callable s w =
+    let o = openCall w s in
+    record {
+      allowed = record { at = ([], tt); given = (lent w, (s, tt)); returned = o .answer; last = (o .words, (tt, tt)); learnt = refl };
+      asks = refl;
+      words = refl;
+    }
+
+book-callable : (name slot : ℕ) (parents w : List ℕ) → Makes function by-book (Book name slot parents) w
+book-callable name slot parents w =
+    let o = bookCall w name slot parents in
+    record {
+      allowed = record {
+        at = ([], ([], tt));
+        given = (lent w, (name, (slot, (lent parents, tt))));
+        returned = o .answer;
+        last = (o .words, (tt, (tt, (tt, tt))));
+        learnt = refl;
+      };
+      asks = refl;
+      words = refl;
+    }
+
+poll-callable : (name : ℕ) (votes w : List ℕ) → Makes function by-poll (Poll name votes) w
+poll-callable name votes w =
+    let o = pollCall w name votes in
+    record {
+      allowed = record {
+        at = ([], ([], tt));
+        given = (lent w, (name, (lent votes, tt)));
+        returned = o .answer;
+        last = (o .words, (tt, (tt, tt)));
+        learnt = refl;
+      };
+      asks = refl;
+      words = refl;
+    }
+
+-- a reading with an answer that its contract allows
+abbrev read : {Asked : In 1 code.query.Kinds.ps} {Learnt : Out 1 code.query.Kinds.ps code.query.Kinds.r} →
+    let f = contractOf 1 code.query.Kinds.ps code.query.Kinds.r Asked Learnt in
+    (name : ℕ) (w : List ℕ) (r : Answer) →
+    Learnt ([], tt) (lent w, (name, tt)) r (atExit (endedBy f) ([], tt) (lent w, (name, tt)) (tt, (tt, tt))) → Allowed f
+read name w r learnt = record { at = ([], tt); given = (lent w, (name, tt)); returned = r; last = (tt, (tt, tt)); learnt = learnt }
+
+pub ledger-callable : CodeCallable function of-ledger
+unfolding CodeCallable
+ledger-callable (Open s) w = open-callable s w
+ledger-callable (Book name slot parents) w = book-callable name slot parents w
+ledger-callable (Poll name votes) w = poll-callable name votes w
+ledger-callable (Ask Query name) w = record { allowed = read name w (queryCall w name) refl; asks = refl; words = refl }
+ledger-callable (Ask Accepted name) w = record { allowed = read name w (acceptedCall w name) refl; asks = refl; words = refl }
+ledger-callable (Ask Lead name) w = record { allowed = read name w (leadCall w name) refl; asks = refl; words = refl }
+ledger-callable (Ask Confidence name) w = record { allowed = read name w (confidenceCall w name) refl; asks = refl; words = refl }
+ledger-callable (Ask Size name) w = record { allowed = read name w (sizeCall w name) refl; asks = refl; words = refl }
+
+-- ---- the C face's functions
+
+filz-open-callable : (s : Setting) (w : List ℕ) → Makes function by-filz-open (Open s) w
+filz-open-callable s w =
+    let o = openCall w s in
+    record {
+      allowed = record {
+        at = ([], ([], tt));
+        given = (lent w, (s .k, (s .a, (s .beta1, (s .beta2, (lent (pos 0), tt))))));
+        returned = number (o .answer);
+        last = (o .words, (tt, (tt, (tt, (tt, (value (o .answer), tt))))));
+        learnt = handed o;
+      };
+      asks = refl;
+      words = refl;
+    }
+
+filz-book-callable : (name slot : ℕ) (parents w : List ℕ) → Makes function by-filz-book (Book name slot parents) w
+filz-book-callable name slot parents w =
+    let o = bookCall w name slot parents in
+    record {
+      allowed = record {
+        at = ([], ([], ([], tt)));
+        given = (lent w, (name, (slot, (lent parents, (lent (pos 0), tt)))));
+        returned = number (o .answer);
+        last = (o .words, (tt, (tt, (tt, (value (o .answer), tt)))));
+        learnt = handed o;
+      };
+      asks = refl;
+      words = refl;
+    }
+
+filz-poll-callable : (name : ℕ) (votes w : List ℕ) → Makes function by-filz-poll (Poll name votes) w
+filz-poll-callable name votes w =
+    let o = pollCall w name votes in
+    record {
+      allowed = record {
+        at = ([], ([], ([], tt)));
+        given = (lent w, (name, (lent votes, (lent (pos 0), tt))));
+        returned = number (o .answer);
+        last = (o .words, (tt, (tt, (value (o .answer), tt))));
+        learnt = handed o;
+      };
+      asks = refl;
+      words = refl;
+    }
+
+abbrev filz-read : {Asked : In 2 code.filz_query.Kinds.ps} {Learnt : Out 2 code.filz_query.Kinds.ps code.filz_query.Kinds.r} →
+    let f = contractOf 2 code.filz_query.Kinds.ps code.filz_query.Kinds.r Asked Learnt in
+    (name : ℕ) (w : List ℕ) (r : Answer) →
+    Learnt ([], ([], tt)) (lent w, (name, (lent (pos 0), tt))) (number r)
+    (atExit (endedBy f) ([], ([], tt)) (lent w, (name, (lent (pos 0), tt))) (tt, (tt, (value r, tt)))) →
+    Allowed f
+filz-read name w r learnt =
+    record { at = ([], ([], tt)); given = (lent w, (name, (lent (pos 0), tt))); returned = number r; last = (tt, (tt, (value r, tt))); learnt = learnt }
+
+pub station-callable : CodeCallable function of-station
+unfolding CodeCallable
+station-callable (Open s) w = filz-open-callable s w
+station-callable (Book name slot parents) w = filz-book-callable name slot parents w
+station-callable (Poll name votes) w = filz-poll-callable name votes w
+station-callable (Ask Query name) w = let r = queryCall w name in record { allowed = filz-read name w r (own r); asks = refl; words = refl }
+station-callable (Ask Accepted name) w = let r = acceptedCall w name in record { allowed = filz-read name w r (own r); asks = refl; words = refl }
+station-callable (Ask Lead name) w = let r = leadCall w name in record { allowed = filz-read name w r (own r); asks = refl; words = refl }
+station-callable (Ask Confidence name) w = let r = confidenceCall w name in record { allowed = filz-read name w r (own r); asks = refl; words = refl }
+station-callable (Ask Size name) w = let r = sizeCall w name in record { allowed = filz-read name w r (own r); asks = refl; words = refl }
