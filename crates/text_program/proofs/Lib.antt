@@ -2,4 +2,5 @@
 pub mod Lines
 pub mod Pieces
 pub mod Program
+pub mod Written
 pub mod Example
