@@ -4,3 +4,4 @@ pub mod Pieces
 pub mod Program
 pub mod Written
 pub mod Example
+pub mod Readings
