@@ -12,6 +12,7 @@ use Rattle.loops.specs.Rows.{walkFrom}
 use Rattle.terms.specs.declared.setting.Setting.{Setting}
 use Rattle.terms.specs.Setting.{settingOf}
 use Rattle.terms.specs.declared.answer.Answer.{Answer}
+use Rattle.terms.specs.declared.answer.Reading.{Reading}
 use Rattle.terms.specs.Answers.{Outcome, done}
 use Rattle.terms.specs.Votes.{voteOf}
 use Rattle.rules.specs.Layout.{size}
@@ -21,7 +22,7 @@ use Rattle.rules.specs.Open.{opened, openWord}
 use Rattle.rules.specs.Book.{lookUp, hasUnknown, hasTwice, entered, booked}
 use Rattle.rules.specs.Poll.{polled, raiseOne, prefer, follow, settleOne}
 use Rattle.rules.specs.Readings.{acceptOne, acceptedOf}
-use Rattle.rules.specs.Calls.{testBy, testOf, tested, openCall, bookBy, pollBy, bookCall, pollCall}
+use Rattle.rules.specs.Calls.{testBy, testOf, tested, openCall, bookBy, pollBy, readBy, bookCall, pollCall, readCall}
 use Rattle.rules.specs.Listing.{listCall}
 use Rattle.rules.proofs.Same.{Passes, passes, sameNumbers, same-numbers}
 use Rattle.rules.proofs.Walk.{isSoundWalked, walked-is}
@@ -36,15 +37,16 @@ use Rattle.text_listing.specs.Listed.{listRow, rowsPrint, listPrints, li
 abbrev pub setting : Setting
 setting = settingOf 3 2 1 2
 
--- the calls that it makes
+-- the calls that an example makes
 pub record ExampleCalls : Type 0 where
   pub book : List ℕ → ℕ → ℕ → List ℕ → Outcome
   pub poll : List ℕ → ℕ → List ℕ → Outcome
   pub list : List ℕ → Answer
+  pub ask : Reading → List ℕ → ℕ → Answer
 
 -- those of the law
 abbrev pub theCalls : ExampleCalls
-theCalls = record { book = bookCall; poll = pollCall; list = listCall }
+theCalls = record { book = bookCall; poll = pollCall; list = listCall; ask = readCall }
 
 -- what they print on some words, one after the other
 unfoldable pub runPrints : ExampleCalls → List ℕ → List ℕ
@@ -82,8 +84,14 @@ runSays =
 
 -- ---- computed with the test that walks
 
-abbrev made : (List ℕ → Bool) → ExampleCalls
-made sound = record { book = bookBy (testBy sound); poll = pollBy (testBy sound); list = λ w. tested (testBy sound) w done }
+abbrev pub made : (List ℕ → Bool) → ExampleCalls
+made sound =
+    record {
+      book = bookBy (testBy sound);
+      poll = pollBy (testBy sound);
+      list = λ w. tested (testBy sound) w done;
+      ask = readBy (testBy sound);
+    }
 
 abbrev unopened : List ℕ
 unopened = replicate size 0
@@ -92,7 +100,7 @@ run-walked : Passes (sameNumbers (runPrints (made isSoundWalked) unopened) runSa
 unfolding runPrints sameNumbers listRow rowsPrint listPrints rowPrints digitsOf decimal isSoundWalked headerGood genesisGood bookingGood parentsGood stateGood chits bookingsOf opened openWord lookUp hasUnknown hasTwice entered booked polled raiseOne prefer follow settleOne acceptOne acceptedOf ancestry sweep spread voteOf openCall upTo firstFrom total greatest from walkFrom
 run-walked = tt
 
-calls-walked : theCalls ≡ made isSoundWalked
+pub calls-walked : theCalls ≡ made isSoundWalked
 unfolding bookCall pollCall listCall testOf
 calls-walked = ap made (fun-ext (λ w. sym (walked-is w)))
 

@@ -4,6 +4,7 @@ use mathlib.Core.Path.{_≡_, refl, ap, _∙_}
 use mathlib.Core.List.{List, [], _∷_}
 use Prim.Native.Nat.{ℕ}
 use native.Mathlib.Omega.{arith}
+use lib.ListN.{length}
 use Rattle.loops.specs.Search.{firstFrom}
 use Rattle.loops.specs.Turns.{upTo}
 use Rattle.text_bytes.specs.Bytes.{bytes}
@@ -15,7 +16,7 @@ use Rattle.line_scan.specs.Lists.{leading, manyOf}
 use Rattle.line_parse.specs.Line.{openSays, readSays, bookSays, pollSays, lineSays}
 use Rattle.line_serve.specs.Serve.{served}
 use Rattle.text_program.specs.Program.{zeros, lines, printed, program}
-use Rattle.text_program.proofs.Program.{program-short}
+use Rattle.text_program.proofs.Program.{program-short, program-long}
 
 -- how an input falls into lines: none in an empty one and none after the final line feed, an empty one, and a last one that ends with the input
 line-cases :
@@ -26,6 +27,12 @@ line-cases :
     × (lines (bytes "list\n\nsize 1") ≡ bytes "list" ∷ bytes "" ∷ bytes "size 1" ∷ [])
 unfolding lines
 line-cases = (refl, refl, refl, refl, refl)
+
+-- the limit: the longest input that is served, and the shortest that is not
+limit-cases : (input : List ℕ)
+    → (length input ≡ 65536 → program input ≡ printed zeros (lines input))
+    × (length input ≡ 65537 → program input ≡ bytes "input too long\n")
+limit-cases input = (λ e. program-short input (omega (arith, e)), λ e. program-long input (omega (arith, e)))
 
 -- the ten lines
 abbrev pub example : List (List ℕ)

@@ -2,4 +2,6 @@
 pub mod Lines
 pub mod Pieces
 pub mod Program
+pub mod Written
 pub mod Example
+pub mod Readings
