@@ -123,7 +123,7 @@ uint32_t filz_book(uint16_t *ws, size_t words, uint64_t name, uint16_t slot, con
 /*
  * Enters the completed poll of a waiting booking, one byte for each of the k stations asked. It succeeds if at least a of
  * them are yes; no and silence count alike. Then every member of its ancestry, itself too, gains one confidence, and those
- * strictly ahead of their slot's preferred booking take its place. A failed poll only marks the booking as polled.
+ * strictly ahead of their slot's preferred booking take its place. A failed poll only notes the booking as polled.
  * A booking is polled once.
  *
  * Refuses, in this order: FILZ_WRONG_LENGTH, FILZ_NOT_SOUND, FILZ_UNKNOWN_NAME, FILZ_NOT_WAITING, FILZ_WRONG_VOTES,
