@@ -5,6 +5,7 @@ use text_program::INPUT_MOST;
 ghost use mathlib.Core.Path.{_≡_};
 ghost use mathlib.Core.Bool.{true};
 ghost use Prim.Native.Nat.{_≤_};
+ghost use lib.IntN.{pos};
 ghost use lib.ListN.{length};
 ghost use Rattle.text_program.specs.Program.{zeros, lines};
 ghost use Rattle.text_program.specs.Piece.{wordsAfter};
@@ -64,6 +65,13 @@ fn read_input(input: &mut [u8]) -> Input
     Input::Whole(count)
 }
 
+// Writes all that was put into a buffer, or tells that it failed. It is handed standard output and nothing else.
+fn write_out(to: i32, bytes: &[u8]) -> bool
+    requires { ⌜ to ≡ pos 1 ⌝ }
+{
+    io::write_all(to, bytes)
+}
+
 // Serves the lines piece by piece and writes each piece, whole, before the next is served. False as soon as a write fails.
 fn serve_lines(w: &mut [u16], input: &[u8], out: &mut [u8]) -> bool
     requires { ⌜ Begun (now w) (now out) ⌝ }
@@ -74,7 +82,7 @@ fn serve_lines(w: &mut [u16], input: &[u8], out: &mut [u8]) -> bool
     while start < input.len() {
         let piece = text_program::serve_piece(w, known, input, start, out);
         let count = piece.count;
-        if !io::write_all(libc::STDOUT_FILENO, &out[..count]) {
+        if !write_out(libc::STDOUT_FILENO, &out[..count]) {
             return false;
         }
         known = piece.known;
@@ -90,7 +98,7 @@ fn serve_input(w: &mut [u16], input: &[u8], out: &mut [u8]) -> bool
 {
     if text_program::is_too_long(input.len()) {
         let count = text_print::put_too_long(out, 0);
-        return io::write_all(libc::STDOUT_FILENO, &out[..count]);
+        return write_out(libc::STDOUT_FILENO, &out[..count]);
     }
     serve_lines(w, input, out)
 }

@@ -16,16 +16,16 @@ is-too-long-requires c κs = search needs
 put-too-long-requires : tie.Need-put-too-long-requires
 put-too-long-requires c κs = search needs
 
-slice-reshare-prefix-write-all : tie.Need-slice-reshare-prefix-write-all
-slice-reshare-prefix-write-all c = search needs
+slice-reshare-prefix-write-out : tie.Need-slice-reshare-prefix-write-out
+slice-reshare-prefix-write-out c = search needs
 
-slice-aggregate-write-all : tie.Need-slice-aggregate-write-all
-slice-aggregate-write-all c =
+slice-aggregate-write-out : tie.Need-slice-aggregate-write-out
+slice-aggregate-write-out c =
     let put = c .before .before .before .put-too-long .ensures in
     sym (length-take-le _ _ (omega (arith, put .next, put-length put, c .before .before .before .before .before .before .before .before .before .before .pre .room)))
 
-write-all-requires : tie.Need-write-all-requires
-write-all-requires c κs = search needs
+write-out-requires : tie.Need-write-out-requires
+write-out-requires c κs = search needs
 
 same-length : tie.Need-same-length
 same-length c = search needs
@@ -59,9 +59,9 @@ serve-input-spec =
     (tie.spec
     is-too-long-requires
     put-too-long-requires
-    slice-reshare-prefix-write-all
-    slice-aggregate-write-all
-    write-all-requires
+    slice-reshare-prefix-write-out
+    slice-aggregate-write-out
+    write-out-requires
     same-length
     too-long
     serve-lines-requires

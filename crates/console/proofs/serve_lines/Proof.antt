@@ -36,14 +36,14 @@ serve-piece-requires c κs =
     let inv = c .before .before .before .loop .inv in
     record { whole = inv .0; told = inv .2; room = omega (arith, inv .1) }
 
-slice-reshare-prefix-write-all : tie.Need-slice-reshare-prefix-write-all Inv-loop μ-loop
-slice-reshare-prefix-write-all c = search needs
+slice-reshare-prefix-write-out : tie.Need-slice-reshare-prefix-write-out Inv-loop μ-loop
+slice-reshare-prefix-write-out c = search needs
 
-slice-aggregate-write-all : tie.Need-slice-aggregate-write-all Inv-loop μ-loop
-slice-aggregate-write-all c = sym (length-take-le _ _ (c .before .before .before .before .before .serve-piece .ensures .within))
+slice-aggregate-write-out : tie.Need-slice-aggregate-write-out Inv-loop μ-loop
+slice-aggregate-write-out c = sym (length-take-le _ _ (c .before .before .before .before .before .serve-piece .ensures .within))
 
-write-all-requires : tie.Need-write-all-requires Inv-loop μ-loop
-write-all-requires c κs = search needs
+write-out-requires : tie.Need-write-out-requires Inv-loop μ-loop
+write-out-requires c κs = search needs
 
 same-length : tie.Need-same-length Inv-loop μ-loop
 same-length c = search needs
@@ -84,9 +84,9 @@ serve-lines-spec =
     μ-loop
     loop-holds
     serve-piece-requires
-    slice-reshare-prefix-write-all
-    slice-aggregate-write-all
-    write-all-requires
+    slice-reshare-prefix-write-out
+    slice-aggregate-write-out
+    write-out-requires
     same-length
     same-length-2
     failed
