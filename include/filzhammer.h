@@ -5,7 +5,8 @@
  * ledgers may live side by side. Every call takes any contents and any numbers: it answers, or refuses and changes no word.
  *
  * Each call returns 0 when it is taken and writes its value through the last pointer; open, book and poll have value 0.
- * A refused call returns the number of its refusal, writes value 0, and leaves every word of the workspace as it was.
+ * A refused call returns the number of its refusal and leaves every word of the workspace as it was. It writes value 0, or,
+ * with FILZ_DAMAGED_RECORD and FILZ_DAMAGED_SLOT, the lowest row that breaks a rule.
  *
  * What the caller owes, since no C function can test it:
  *  - every pointer to words, parents or votes leads to as many elements as the count beside it says, and is aligned as its
@@ -83,22 +84,35 @@ extern "C" {
 #define FILZ_PAPER_BETA1 11
 #define FILZ_PAPER_BETA2 150
 
-/* What a call returns. Where several refusals apply, each call names the first of its own list below. */
+/*
+ * What a call returns. Where several refusals apply, each call names the first of its own list below; so a damaged header
+ * hides damaged records, and a damaged record hides damaged slot entries.
+ *
+ * The value of a refusal is 0, except for two. Theirs is the lowest row that breaks a rule:
+ *  - with FILZ_DAMAGED_RECORD the number of a record, 0 to 512. Of the records below n that share a name, or an ordinal above
+ *    0, all but the lowest break a rule. From n on a record breaks one unless it is all zero. An ordinal from 1 to p that no
+ *    record holds is charged to number n; 512, which no record has, can only be that, a missing ordinal of a full ledger;
+ *  - with FILZ_DAMAGED_SLOT a slot, 0 to 255.
+ * That row doesn't fit the others. The word that was hit may stand elsewhere: a state hit from 2 to 1 is one chit less, no
+ * confidence may exceed the number of chits, and the genesis, which gained one by each, is named. See docs/DAMAGE.md.
+ */
 enum filz_number {
     FILZ_TAKEN = 0,
-    FILZ_WRONG_LENGTH = 1,   /* the workspace isn't FILZ_WORDS long */
-    FILZ_NOT_SOUND = 2,      /* its words aren't those of a ledger: never opened, or damaged since */
-    FILZ_BAD_SETTING = 3,    /* the setting breaks 1 <= k <= 64, a <= k < 2 * a or 1 <= beta1 <= beta2 <= 510 */
-    FILZ_NAME_TAKEN = 4,     /* a booking has this name already; name 0 is the genesis's */
-    FILZ_BAD_SLOT = 5,       /* the slot is 0 or above 255 */
-    FILZ_BAD_PARENTS = 6,    /* no parents, or more than four */
-    FILZ_UNKNOWN_PARENT = 7, /* no booking has the name of one of the parents */
-    FILZ_PARENT_TWICE = 8,   /* two parents are the same */
-    FILZ_FULL = 9,           /* 512 bookings are there already */
-    FILZ_UNKNOWN_NAME = 10,  /* no booking has this name */
-    FILZ_NOT_WAITING = 11,   /* the booking was polled before; the genesis counts as polled */
-    FILZ_WRONG_VOTES = 12,   /* the number of votes isn't the ledger's k */
-    FILZ_BAD_VOTE = 13       /* a vote is neither FILZ_YES, FILZ_NO nor FILZ_SILENT */
+    FILZ_WRONG_LENGTH = 1,    /* the workspace isn't FILZ_WORDS long */
+    FILZ_DAMAGED_HEADER = 2,  /* n, the setting, p or the last two header words break a rule: never opened, or damaged since */
+    FILZ_BAD_SETTING = 3,     /* the setting breaks 1 <= k <= 64, a <= k < 2 * a or 1 <= beta1 <= beta2 <= 510 */
+    FILZ_NAME_TAKEN = 4,      /* a booking has this name already; name 0 is the genesis's */
+    FILZ_BAD_SLOT = 5,        /* the slot is 0 or above 255 */
+    FILZ_BAD_PARENTS = 6,     /* no parents, or more than four */
+    FILZ_UNKNOWN_PARENT = 7,  /* no booking has the name of one of the parents */
+    FILZ_PARENT_TWICE = 8,    /* two parents are the same */
+    FILZ_FULL = 9,            /* 512 bookings are there already */
+    FILZ_UNKNOWN_NAME = 10,   /* no booking has this name */
+    FILZ_NOT_WAITING = 11,    /* the booking was polled before; the genesis counts as polled */
+    FILZ_WRONG_VOTES = 12,    /* the number of votes isn't the ledger's k */
+    FILZ_BAD_VOTE = 13,       /* a vote is neither FILZ_YES, FILZ_NO nor FILZ_SILENT */
+    FILZ_DAMAGED_RECORD = 14, /* the header is right and a record breaks a rule; its number is the value */
+    FILZ_DAMAGED_SLOT = 15    /* header and records are right and a slot entry breaks a rule; its slot is the value */
 };
 
 /*
@@ -114,8 +128,8 @@ uint32_t filz_open(uint16_t *ws, size_t words, uint16_t k, uint16_t a, uint16_t 
  * Books `name` for `slot` on parents booked earlier, which are given by their names. It waits for its poll, with
  * confidence 0. In an empty slot it is preferred at once; in another the slot only has one booking more.
  *
- * Refuses, in this order: FILZ_WRONG_LENGTH, FILZ_NOT_SOUND, FILZ_NAME_TAKEN, FILZ_BAD_SLOT, FILZ_BAD_PARENTS,
- * FILZ_UNKNOWN_PARENT, FILZ_PARENT_TWICE, FILZ_FULL.
+ * Refuses, in this order: FILZ_WRONG_LENGTH, FILZ_DAMAGED_HEADER, FILZ_DAMAGED_RECORD, FILZ_DAMAGED_SLOT,
+ * FILZ_NAME_TAKEN, FILZ_BAD_SLOT, FILZ_BAD_PARENTS, FILZ_UNKNOWN_PARENT, FILZ_PARENT_TWICE, FILZ_FULL.
  */
 uint32_t filz_book(uint16_t *ws, size_t words, uint64_t name, uint16_t slot, const uint64_t *parents, size_t count,
                    int64_t *value);
@@ -126,15 +140,16 @@ uint32_t filz_book(uint16_t *ws, size_t words, uint64_t name, uint16_t slot, con
  * strictly ahead of their slot's preferred booking take its place. A failed poll only notes the booking as polled.
  * A booking is polled once.
  *
- * Refuses, in this order: FILZ_WRONG_LENGTH, FILZ_NOT_SOUND, FILZ_UNKNOWN_NAME, FILZ_NOT_WAITING, FILZ_WRONG_VOTES,
- * FILZ_BAD_VOTE.
+ * Refuses, in this order: FILZ_WRONG_LENGTH, FILZ_DAMAGED_HEADER, FILZ_DAMAGED_RECORD, FILZ_DAMAGED_SLOT,
+ * FILZ_UNKNOWN_NAME, FILZ_NOT_WAITING, FILZ_WRONG_VOTES, FILZ_BAD_VOTE.
  */
 uint32_t filz_poll(uint16_t *ws, size_t words, uint64_t name, const uint8_t *votes, size_t count, int64_t *value);
 
 /*
  * The readings, which change nothing. A booking's ancestry is itself and everything reached through parents.
  *
- * Each refuses, in this order: FILZ_WRONG_LENGTH, FILZ_NOT_SOUND, FILZ_UNKNOWN_NAME.
+ * Each refuses, in this order: FILZ_WRONG_LENGTH, FILZ_DAMAGED_HEADER, FILZ_DAMAGED_RECORD, FILZ_DAMAGED_SLOT,
+ * FILZ_UNKNOWN_NAME.
  */
 
 /* 1 if every member of the ancestry is preferred in its slot, else 0: how this station votes when it is asked. */

@@ -45,8 +45,8 @@ fn ask(call: impl FnOnce(*mut i64) -> u32) -> Result<i64, Refusal> {
     let mut value = 0;
     match call(&mut value) {
         0 => Ok(value),
-        // The library is proved to return 0 or the number of a refusal.
-        number => Err(Refusal::from_number(number).expect("the number of a refusal")),
+        // The library is proved to give 0, or the number of a refusal with its row, or with 0 where it names none.
+        number => Err(Refusal::from_answer(number, value).expect("number and value of a refusal")),
     }
 }
 

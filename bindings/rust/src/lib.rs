@@ -24,8 +24,9 @@
 //! The library behind these functions is proved against its rules. In short:
 //!
 //! 1. **Every call ends in an answer, and a refused call leaves no trace.** Any words and any arguments may be passed; nothing
-//!    has to be tested first, and no call panics. Which refusal is given is settled for every input: the first of the call's
-//!    list that applies. Then no word has changed. Whatever a taken call leaves is again a sound ledger.
+//!    has to be tested first, and no call panics. Which refusal is given is settled for every input, the first of the call's
+//!    list that applies, and so is the row that it names. Then no word has changed. Whatever a taken call leaves is again a
+//!    sound ledger.
 //! 2. **Answers and words are those of the rules, to the last word.** The rules say what an ancestry is (the booking and
 //!    everything reached through parents, each once), when a poll succeeds and what it writes, what a query answers and
 //!    when a booking is accepted. For the same words and arguments there is one possible outcome, and it is this one. Of the
@@ -37,6 +38,43 @@
 //! What the proofs do not cover is this crate's own few lines, which pass slices on and turn numbers into [`Refusal`]; they are
 //! tested. And a ledger is as good as its words: while another program can write there, soundness is tested again at every call,
 //! but damage that happens to look like a ledger is taken for one.
+//!
+//! # Damage
+//!
+//! Every call but [`open`] first tests all words. [`DamagedHeader`](Refusal::DamagedHeader) says that the header breaks a rule,
+//! [`DamagedRecord`](Refusal::DamagedRecord) that the header is right and a record breaks one,
+//! [`DamagedSlot`](Refusal::DamagedSlot) that only slot entries do. The last two carry a row: the lowest record's number, or the
+//! lowest slot, that breaks a rule. That row doesn't fit the others; the word that was hit may stand elsewhere.
+//!
+//! ```
+//! use filzhammer::{book, open, poll, query, Refusal, Setting, WORDS, YES};
+//!
+//! let mut ledger = [0u16; WORDS];
+//! assert_eq!(query(&ledger, 0), Err(Refusal::DamagedHeader)); // never opened: n is 0
+//! open(&mut ledger, Setting { k: 1, a: 1, beta1: 1, beta2: 2 })?;
+//! book(&mut ledger, 1, 7, &[0])?;
+//! book(&mut ledger, 2, 8, &[1])?;
+//! poll(&mut ledger, 2, &[YES])?; // the one chit, so 0, 1 and 2 have confidence 1
+//! let good = ledger;
+//!
+//! ledger[8 + 12 * 2 + 5] = 2; // booking 2 would rest on itself
+//! assert_eq!(query(&ledger, 1), Err(Refusal::DamagedRecord(2)));
+//! assert_eq!(query(&ledger, 1).unwrap_err().row(), Some(2));
+//!
+//! ledger = good;
+//! ledger[8 + 12 * 2 + 9] = 1; // no chit is left, so no confidence may exceed 0: 0, 1 and 2 break it
+//! assert_eq!(query(&ledger, 1), Err(Refusal::DamagedRecord(0)));
+//!
+//! ledger = good;
+//! ledger[6152 + 4 * 7 + 2] = 4; // the counter of slot 7, above the number of chits
+//! assert_eq!(query(&ledger, 1), Err(Refusal::DamagedSlot(7)));
+//!
+//! ledger = good;
+//! assert_eq!(query(&ledger, 1), Ok(1));
+//! # Ok::<(), Refusal>(())
+//! ```
+//!
+//! A refused call has changed nothing, so the words can still be looked at. Put a good copy back, or open anew.
 #![no_std]
 #![warn(missing_docs)]
 
@@ -94,9 +132,10 @@ pub fn open(ws: &mut [u16], setting: Setting) -> Result<(), Refusal> {
 /// Books `name` for `slot` on one to four parents, given by their names. It waits for its poll, with confidence 0, and is
 /// preferred if the slot was empty.
 ///
-/// Refuses [`WrongLength`](Refusal::WrongLength), [`NotSound`](Refusal::NotSound), [`NameTaken`](Refusal::NameTaken),
-/// [`BadSlot`](Refusal::BadSlot), [`BadParents`](Refusal::BadParents), [`UnknownParent`](Refusal::UnknownParent),
-/// [`ParentTwice`](Refusal::ParentTwice), [`Full`](Refusal::Full), in this order.
+/// Refuses [`WrongLength`](Refusal::WrongLength), [`DamagedHeader`](Refusal::DamagedHeader),
+/// [`DamagedRecord`](Refusal::DamagedRecord), [`DamagedSlot`](Refusal::DamagedSlot),
+/// [`NameTaken`](Refusal::NameTaken), [`BadSlot`](Refusal::BadSlot), [`BadParents`](Refusal::BadParents),
+/// [`UnknownParent`](Refusal::UnknownParent), [`ParentTwice`](Refusal::ParentTwice), [`Full`](Refusal::Full), in this order.
 pub fn book(ws: &mut [u16], name: u64, slot: u16, parents: &[u64]) -> Result<(), Refusal> {
     face::book(ws, name, slot, parents).map(drop)
 }
@@ -106,16 +145,19 @@ pub fn book(ws: &mut [u16], name: u64, slot: u16, parents: &[u64]) -> Result<(),
 /// With at least `a` yes votes the whole ancestry gains one confidence each, and those that are then strictly ahead of their
 /// slot's preferred booking take its place. With fewer the booking only counts as polled.
 ///
-/// Refuses [`WrongLength`](Refusal::WrongLength), [`NotSound`](Refusal::NotSound), [`UnknownName`](Refusal::UnknownName),
-/// [`NotWaiting`](Refusal::NotWaiting), [`WrongVotes`](Refusal::WrongVotes), [`BadVote`](Refusal::BadVote), in this order.
+/// Refuses [`WrongLength`](Refusal::WrongLength), [`DamagedHeader`](Refusal::DamagedHeader),
+/// [`DamagedRecord`](Refusal::DamagedRecord), [`DamagedSlot`](Refusal::DamagedSlot),
+/// [`UnknownName`](Refusal::UnknownName), [`NotWaiting`](Refusal::NotWaiting), [`WrongVotes`](Refusal::WrongVotes),
+/// [`BadVote`](Refusal::BadVote), in this order.
 pub fn poll(ws: &mut [u16], name: u64, votes: &[u8]) -> Result<(), Refusal> {
     face::poll(ws, name, votes).map(drop)
 }
 
 /// 1 if every member of the booking's ancestry is preferred in its slot, else 0. It is how this station votes.
 ///
-/// Refuses [`WrongLength`](Refusal::WrongLength), [`NotSound`](Refusal::NotSound), [`UnknownName`](Refusal::UnknownName), in
-/// this order, as all readings do.
+/// Refuses [`WrongLength`](Refusal::WrongLength), [`DamagedHeader`](Refusal::DamagedHeader),
+/// [`DamagedRecord`](Refusal::DamagedRecord), [`DamagedSlot`](Refusal::DamagedSlot),
+/// [`UnknownName`](Refusal::UnknownName), in this order, as all readings do.
 pub fn query(ws: &[u16], name: u64) -> Result<i64, Refusal> {
     face::query(ws, name)
 }

@@ -1,5 +1,8 @@
-//! Each refusal on both sides of its border, in its order, with no word changed.
+//! Each refusal on both sides of its border, in its order, with no word changed. Damage, 2, 14 and 15, has `damage.rs`.
 use filzhammer::*;
+
+mod refused;
+use refused::*;
 
 const SETTING: Setting = Setting {
     k: 3,
@@ -18,52 +21,87 @@ fn ledger() -> [u16; WORDS] {
     ws
 }
 
-/// The call is refused so, and leaves the words alone.
-#[track_caller]
-fn refused(refusal: Refusal, ws: &mut [u16], call: impl FnOnce(&mut [u16]) -> Result<(), Refusal>) {
-    let before = ws.to_vec();
-    assert_eq!(call(ws), Err(refusal));
-    assert_eq!(ws, before, "a refused call changed a word");
-}
+/// Each refusal once, the rows by their greatest.
+const EACH: [Refusal; 15] = [
+    Refusal::WrongLength,
+    Refusal::DamagedHeader,
+    Refusal::BadSetting,
+    Refusal::NameTaken,
+    Refusal::BadSlot,
+    Refusal::BadParents,
+    Refusal::UnknownParent,
+    Refusal::ParentTwice,
+    Refusal::Full,
+    Refusal::UnknownName,
+    Refusal::NotWaiting,
+    Refusal::WrongVotes,
+    Refusal::BadVote,
+    Refusal::DamagedRecord(512),
+    Refusal::DamagedSlot(255),
+];
 
-#[track_caller]
-fn book_refused(refusal: Refusal, ws: &mut [u16], name: u64, slot: u16, parents: &[u64]) {
-    refused(refusal, ws, |ws| book(ws, name, slot, parents));
-}
-
-#[track_caller]
-fn poll_refused(refusal: Refusal, ws: &mut [u16], name: u64, votes: &[u8]) {
-    refused(refusal, ws, |ws| poll(ws, name, votes));
-}
-
-#[track_caller]
-fn readings_refused(refusal: Refusal, ws: &[u16], name: u64) {
-    for reading in [query, accepted, lead, confidence, size] {
-        assert_eq!(reading(ws, name), Err(refusal));
+#[test]
+fn the_numbers_are_1_to_15() {
+    assert_eq!(
+        EACH.map(Refusal::number).to_vec(),
+        (1..=15).collect::<Vec<u32>>()
+    );
+    for refusal in EACH {
+        assert!(!refusal.to_string().is_empty());
     }
-}
-
-/// Every call but open is refused so, whatever else is wrong with it.
-#[track_caller]
-fn all_refused(refusal: Refusal, ws: &mut [u16]) {
-    book_refused(refusal, ws, 0, 0, &[]);
-    poll_refused(refusal, ws, 9, &[2]);
-    readings_refused(refusal, ws, 9);
 }
 
 #[test]
-fn the_numbers_are_1_to_13() {
-    let numbers: Vec<u32> = Refusal::ALL
-        .iter()
-        .map(|refusal| refusal.number())
-        .collect();
-    assert_eq!(numbers, (1..=13).collect::<Vec<u32>>());
-    for refusal in Refusal::ALL {
-        assert_eq!(Refusal::from_number(refusal.number()), Some(refusal));
-        assert!(!refusal.to_string().is_empty());
+fn two_refusals_name_a_row() {
+    for refusal in &EACH[..13] {
+        assert_eq!(refusal.row(), None);
     }
-    assert_eq!(Refusal::from_number(0), None);
-    assert_eq!(Refusal::from_number(14), None);
+    assert_eq!(Refusal::DamagedRecord(0).row(), Some(0));
+    assert_eq!(Refusal::DamagedRecord(512).row(), Some(512));
+    assert_eq!(Refusal::DamagedSlot(7).row(), Some(7));
+    assert_eq!(
+        Refusal::DamagedRecord(3).to_string(),
+        "record 3 breaks a rule, and none below it"
+    );
+    assert_eq!(
+        Refusal::DamagedRecord(512).to_string(),
+        "an ordinal is missing in a full ledger (record 512)"
+    );
+    assert_eq!(
+        Refusal::DamagedSlot(7).to_string(),
+        "the entry of slot 7 breaks a rule, and none below it"
+    );
+}
+
+#[test]
+fn number_and_value_lead_back() {
+    for refusal in EACH {
+        let row = refusal.row().unwrap_or(0);
+        assert_eq!(
+            Refusal::from_answer(refusal.number(), row.into()),
+            Some(refusal)
+        );
+    }
+    for (number, most) in [(14, 512), (15, 255)] {
+        for row in 0..=most {
+            let refusal = Refusal::from_answer(number, row).unwrap();
+            assert_eq!(
+                (refusal.number(), refusal.row().map(i64::from)),
+                (number, Some(row))
+            );
+        }
+        for value in [-1, most + 1, 65536, 65536 + 3, i64::MIN, i64::MAX] {
+            assert_eq!(Refusal::from_answer(number, value), None);
+        }
+    }
+    for number in 1..=13 {
+        for value in [-1, 1, 65536] {
+            assert_eq!(Refusal::from_answer(number, value), None);
+        }
+    }
+    for number in [0, 16, u32::MAX] {
+        assert_eq!(Refusal::from_answer(number, 0), None);
+    }
 }
 
 #[test]
@@ -75,21 +113,6 @@ fn r1_wrong_length() {
             open(ws, Setting { k: 0, ..SETTING })
         });
         all_refused(Refusal::WrongLength, ws);
-    }
-}
-
-#[test]
-fn r2_not_sound() {
-    all_refused(Refusal::NotSound, &mut [0; WORDS]);
-    all_refused(Refusal::NotSound, &mut [65535; WORDS]);
-    let sound = ledger();
-    // a spare header word, the genesis's state, a confidence above the chits, a word past the bookings, a slot's count
-    for (place, word) in [(7, 1), (17, 0), (30, 2), (44, 1), (6183, 3)] {
-        let mut ws = sound;
-        ws[place] = word;
-        all_refused(Refusal::NotSound, &mut ws);
-        open(&mut ws, SETTING).unwrap();
-        assert_eq!(size(&ws, 0), Ok(1));
     }
 }
 

@@ -1,12 +1,13 @@
--- Number and value say all that an answer does: each refusal is found again by its number. Assumes nothing.
-use mathlib.Core.Path.{_≡_, refl, sym, ap, _∙_}
+-- Number and value say all that an answer does: each refusal is found again by them. Assumes nothing.
+use mathlib.Core.Path.{_≡_, refl, sym, ap, ap₂, _∙_}
 use mathlib.Core.List.{List, [], _∷_}
 use Prim.Native.Nat.{ℕ}
+use lib.IntN.{ℤ, natAbs}
 use lib.ListN.{getD}
 use Rattle.terms.specs.declared.answer.Refusal.{Refusal}
 use Rattle.terms.specs.declared.answer.Refusal.the-variants.{
   WrongLength,
-  NotSound,
+  DamagedHeader,
   BadSetting,
   NameTaken,
   BadSlot,
@@ -18,18 +19,20 @@ use Rattle.terms.specs.declared.answer.Refusal.the-variants.{
   NotWaiting,
   WrongVotes,
   BadVote,
+  DamagedRecord,
+  DamagedSlot,
 }
 use Rattle.terms.specs.declared.answer.Answer.the-variants.{Taken, Refused}
-use Rattle.terms.specs.Answers.{refusalNumber}
+use Rattle.terms.specs.Answers.{number, value}
 use Rattle.rule_laws.proofs.Calls.{number-refused}
 use Rattle.code_promises.specs.OfCode.{AnswerTold}
 
--- the refusals in the order of their numbers; 0 is none's
-abbrev refusals : List Refusal
-refusals =
+-- the refusals in the order of their numbers, those that name a row with this one; 0 is none's
+abbrev refusals : ℕ → List Refusal
+refusals row =
     WrongLength
     ∷ WrongLength
-    ∷ NotSound
+    ∷ DamagedHeader
     ∷ BadSetting
     ∷ NameTaken
     ∷ BadSlot
@@ -41,14 +44,16 @@ refusals =
     ∷ NotWaiting
     ∷ WrongVotes
     ∷ BadVote
+    ∷ DamagedRecord row
+    ∷ DamagedSlot row
     ∷ []
 
-abbrev refusalAt : ℕ → Refusal
-refusalAt n = getD refusals n WrongLength
+abbrev refusalAt : ℕ → ℤ → Refusal
+refusalAt n v = getD (refusals (natAbs v)) n WrongLength
 
-found-again : (r : Refusal) → refusalAt (refusalNumber r) ≡ r
+found-again : (r : Refusal) → refusalAt (number (Refused r)) (value (Refused r)) ≡ r
 found-again WrongLength = refl
-found-again NotSound = refl
+found-again DamagedHeader = refl
 found-again BadSetting = refl
 found-again NameTaken = refl
 found-again BadSlot = refl
@@ -60,10 +65,12 @@ found-again UnknownName = refl
 found-again NotWaiting = refl
 found-again WrongVotes = refl
 found-again BadVote = refl
+found-again (DamagedRecord row) = refl
+found-again (DamagedSlot row) = refl
 
 pub answer-told : AnswerTold
 unfolding AnswerTold
 answer-told (Taken v) (Taken x) n e = ap Taken e
 answer-told (Taken v) (Refused q) n e = absurd (number-refused q (sym n))
 answer-told (Refused r) (Taken x) n e = absurd (number-refused r n)
-answer-told (Refused r) (Refused q) n e = ap Refused (sym (found-again r) ∙ ap refusalAt n ∙ found-again q)
+answer-told (Refused r) (Refused q) n e = ap Refused (sym (found-again r) ∙ ap₂ refusalAt n e ∙ found-again q)

@@ -12,9 +12,11 @@ use Rattle.rules.specs.Calls.{openCall, acceptedCall}
 use Rattle.rule_laws.proofs.Calls.{number-refused}
 use Rattle.promises.specs.Run.{Call, Open, Book, Poll, Ask, outcomeOf, isTaken, History, fresh, historyAfter}
 use Rattle.promises.specs.Acceptance.{AcceptedOnce, AcceptedCallOnce}
+use Rattle.promises.specs.Damage.{Names}
 use Rattle.promises.specs.Refusals.{RefusedKeeps}
 use Rattle.promises.proofs.Acceptance.{accepted-once, accepted-call-once}
 use Rattle.promises.proofs.Refusals.{refused-keeps, refused-listed}
+use Rattle.promises.proofs.Damage.{damage-named}
 use Rattle.promises.proofs.Run.{Right, opening-right, step-right}
 use Rattle.station.specs.Returned.{Handed}
 use Rattle.code_promises.specs.OfCode.{
@@ -26,6 +28,7 @@ use Rattle.code_promises.specs.OfCode.{
   OutcomeUnique,
   CodeListed,
   CodeRefuses,
+  CodeNamesDamage,
   Accepts,
   CodeAcceptsOnce,
   Ran,
@@ -74,7 +77,15 @@ pub code-refuses : CodeRefuses function
 unfolding CodeRefuses RefusedKeeps
 code-refuses d m n =
     let kept = refused-keeps (d .call) (d .before) (λ e. n (gave d m .told .numbered ∙ e)) in
-    (gave d m .words ∙ kept .0, gave d m .told .valued ∙ kept .1)
+    let numbered = gave d m .told .numbered in
+    (gave d m .words ∙ kept .0, λ k l. gave d m .told .valued ∙ kept .1 (λ e. k (numbered ∙ e)) (λ e. l (numbered ∙ e)))
+
+pub code-names-damage : CodeNamesDamage function
+unfolding CodeNamesDamage
+code-names-damage d m =
+    let told = gave d m .told in
+    subst (λ n. Names (d .before) n (d .value)) (sym (told .numbered))
+    (subst (Names (d .before) (number (due d .answer))) (sym (told .valued)) (damage-named .calls (d .call) (d .before)))
 
 -- ---- demands 2 and 3
 

@@ -15,6 +15,7 @@ use Rattle.rules.specs.Readings.{acceptedOf}
 use Rattle.rules.specs.Sound.{Ledger}
 use Rattle.promises.specs.Run.{Call, Open, Book, Poll, Ask, outcomeOf, History, fresh, historyAfter}
 use Rattle.promises.specs.Refusals.{OpenListed, BookListed, PollListed, ReadingListed}
+use Rattle.promises.specs.Damage.{Names}
 use Rattle.promises.specs.Confidence.{Counted, sizes}
 use Rattle.station.specs.Returned.{Handed}
 use Rattle.code_promises.specs.Contract.{Contract, Unasked, Allowed}
@@ -88,9 +89,13 @@ module _ {Name : Type 0} (function : Name → Function) where
   unfoldable pub CodeListed : Type 0
   CodeListed = (d : Done) → Made d → ListedFirst (d .call) (d .before) (d .number)
 
-  -- a refused call has changed no word, and its value is 0
+  -- a refused call has changed no word, and its value is 0 unless its number is 14 or 15
   unfoldable pub CodeRefuses : Type 0
-  CodeRefuses = (d : Done) → Made d → d .number ≢ 0 → (d .after ≡ d .before) × (d .value ≡ pos 0)
+  CodeRefuses = (d : Done) → Made d → d .number ≢ 0 → (d .after ≡ d .before) × (d .number ≢ 14 → d .number ≢ 15 → d .value ≡ pos 0)
+
+  -- with 14 and 15 the value is the lowest number of a record, or slot, that breaks a rule
+  unfoldable pub CodeNamesDamage : Type 0
+  CodeNamesDamage = (d : Done) → Made d → Names (d .before) (d .number) (d .value)
 
   -- a taken answer of 1 to the question whether booking i of the words w is accepted
   pub record Accepts (w : List ℕ) (i : ℕ) : Type 0 where

@@ -1,4 +1,4 @@
-// A booking on words that are known to be a ledger: refusals 1 and 2 are judged above, once; 4, 5 and 6 here, and the parents' in `known_book_parents`.
+// A booking on words that are known to be a ledger: refusals 1, 2, 14 and 15 are judged above, once; 4, 5 and 6 here, and the parents' in `known_book_parents`.
 use rules::layout;
 use terms::answer::Answer;
 use terms::answer::Found;

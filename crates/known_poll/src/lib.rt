@@ -1,4 +1,4 @@
-// A completed poll on words that are known to be a ledger: refusals 1 and 2 are judged above, once, and every other one here, in its order.
+// A completed poll on words that are known to be a ledger: refusals 1, 2, 14 and 15 are judged above, once, and every other one here, in its order.
 use poll_writes::writing;
 use rules::layout;
 use terms::answer::Answer;

@@ -29,7 +29,7 @@ pub fn open(w: &mut [u16], s: Setting) -> Answer
     }
 }
 
-// One booking more. Refusals 1, 2, 4, 5, 6, 7, 8, 9.
+// One booking more. Refusals 1, 2, 14, 15, 4, 5, 6, 7, 8, 9.
 pub fn book(w: &mut [u16], name: u64, slot: u16, parents: &[u64]) -> Answer
     ensures { λ r. ⌜ outcome r (now (w .exit)) ≡ bookCall (now (w .entry)) name slot (now (parents .entry)) ⌝ }
 {
@@ -39,7 +39,7 @@ pub fn book(w: &mut [u16], name: u64, slot: u16, parents: &[u64]) -> Answer
     }
 }
 
-// A completed poll. Refusals 1, 2, 10, 11, 12, 13.
+// A completed poll. Refusals 1, 2, 14, 15, 10, 11, 12, 13.
 pub fn poll(w: &mut [u16], name: u64, votes: &[u8]) -> Answer
     ensures { λ r. ⌜ outcome r (now (w .exit)) ≡ pollCall (now (w .entry)) name (now (votes .entry)) ⌝ }
 {

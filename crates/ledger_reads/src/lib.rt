@@ -5,7 +5,7 @@ use terms::answer::Tested;
 ghost use mathlib.Core.Path.{_≡_};
 ghost use Rattle.rules.specs.Calls.{readCall, queryCall, acceptedCall, leadCall, confidenceCall, sizeCall};
 
-// A reading by name. Refusals 1, 2, 10, which all five share.
+// A reading by name. Refusals 1, 2, 14, 15, 10, which all five share.
 fn read(w: &[u16], name: u64, what: Reading) -> Answer
     ensures { λ r. ⌜ r ≡ readCall what (now (w .entry)) name ⌝ }
 {

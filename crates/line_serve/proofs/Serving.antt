@@ -1,37 +1,40 @@
--- A contract met: a call's words and answer, printed, are the effect of its command; and a line has the effect of what it says.
+-- A contract met: a call's words and answer, printed, are the effect of its command; a line has the effect of what it says, and what the words are stays known.
 use mathlib.Core.Path.{_≡_, refl, sym, ap, subst, _∙_}
-use mathlib.Core.Bool.{false}
+use mathlib.Core.Bool.{Bool, true, false}
 use mathlib.Core.List.{List}
 use Prim.Native.Nat.{ℕ, _≤_}
 use native.Mathlib.Omega.{arith}
-use lib.ListN.{length, take}
+use lib.ListN.{length, take, length-replicate}
 use lib.Seq.{sets, length-sets}
+use Rattle.terms.specs.declared.setting.Setting.{Setting}
+use Rattle.terms.specs.Setting.{isGood}
 use Rattle.terms.specs.declared.answer.Answer.{Answer}
 use Rattle.terms.specs.declared.answer.Answer.the-variants.{Refused}
-use Rattle.terms.specs.declared.answer.Refusal.the-variants.{NotSound}
+use Rattle.terms.specs.declared.answer.Refusal.the-variants.{DamagedHeader}
 use Rattle.terms.specs.declared.answer.Reading.{Reading}
 use Rattle.terms.specs.Answers.{Outcome, outcome, done}
 use Rattle.rules.specs.Layout.{size}
-use Rattle.rules.specs.IsSound.{isSound}
 use Rattle.rules.specs.Sound.{Ledger}
-use Rattle.rules.specs.Calls.{readCall}
+use Rattle.rules.specs.Calls.{openCall, readCall}
 use Rattle.rules.specs.Listing.{listCall}
-use Rattle.rule_laws.proofs.Tested.{tested-known, tested-sound}
+use Rattle.rule_laws.proofs.Tested.{tested-known}
 use Rattle.text_put.specs.Put.{Put}
 use Rattle.text_print.specs.Print.{callPrints, readingPrints}
 use Rattle.line_parse.specs.declared.command.Command.{Command}
+use Rattle.line_parse.specs.declared.command.Command.the-variants.{Open, Book, Poll, Read, List as ListAll, Bad}
 use Rattle.line_parse.specs.Line.{lineSays}
 use Rattle.line_parse.proofs.Counts.{take-stored}
 use Rattle.text_listing.specs.Listed.{listPrints, listShows}
 use Rattle.text_listing.proofs.Rows.{list-length}
 use Rattle.line_serve.specs.declared.Served.{Served}
-use Rattle.line_serve.specs.Serve.{Effect, called, asked, listed, commandDoes, served, Serves}
+use Rattle.line_serve.specs.Serve.{Effect, called, asked, listed, commandDoes, served, Keeps, Serves}
+use Rattle.line_serve.proofs.Known.{unopened-tested, book-keeps, poll-keeps, open-keeps, open-good, open-bad}
 use Rattle.line_serve.proofs.Short.{call-length, reading-length, refusal-length}
 
 module _ {out out′ : List ℕ} {at : ℕ} {r : Served} where
   -- an opening, a booking or a poll
   pub serves-called : {w′ : List ℕ} (a : Answer) {o : Outcome} → outcome a w′ ≡ o → Put out at (callPrints a) (r .at) out′
-      → r .known ≡ isSound w′ → Serves (called o) out at r w′ out′
+      → Keeps (r .known) w′ → Serves (called o) out at r w′ out′
   serves-called a e p k =
       record {
         left = ap (λ o. o .words) e;
@@ -41,12 +44,12 @@ module _ {out out′ : List ℕ} {at : ℕ} {r : Served} where
       }
 
   pub serves-asked : (w : List ℕ) (what : Reading) (name : ℕ) {a : Answer} → a ≡ readCall what w name
-      → Put out at (readingPrints a) (r .at) out′ → r .known ≡ isSound w → Serves (asked w (readCall what w name)) out at r w out′
+      → Put out at (readingPrints a) (r .at) out′ → Keeps (r .known) w → Serves (asked w (readCall what w name)) out at r w out′
   serves-asked w what name e p k =
       let put = subst (λ a. Put out at (readingPrints a) (r .at) out′) e p in
       record { left = refl; put = put; within = omega (arith, put .next, reading-length what w name); told = k }
 
-  pub serves-listed : (w : List ℕ) → Ledger w → Put out at (listPrints w) (r .at) out′ → r .known ≡ isSound w → Serves (listed w) out at r w out′
+  pub serves-listed : (w : List ℕ) → Ledger w → Put out at (listPrints w) (r .at) out′ → Keeps (r .known) w → Serves (listed w) out at r w out′
   unfolding listCall
   serves-listed w l p k =
       record {
@@ -56,15 +59,15 @@ module _ {out out′ : List ℕ} {at : ℕ} {r : Served} where
         told = k;
       }
 
-  -- a workspace that is not sound has no listing
-  pub serves-unlisted : (w : List ℕ) → length w ≡ size → isSound w ≡ false → Put out at (callPrints (Refused NotSound)) (r .at) out′
-      → r .known ≡ isSound w → Serves (listed w) out at r w out′
+  -- words that are all zero have no listing
+  pub serves-unlisted : (w : List ℕ) (known : Bool) → Keeps known w → known ≡ false → Put out at (callPrints (Refused DamagedHeader)) (r .at) out′
+      → Keeps (r .known) w → Serves (listed w) out at r w out′
   unfolding listCall
-  serves-unlisted w h f p k =
+  serves-unlisted w known z f p k =
       record {
         left = refl;
-        put = subst (λ a. Put out at (listShows a w) (r .at) out′) (sym (tested-sound w h f done)) p;
-        within = omega (arith, p .next, refusal-length NotSound);
+        put = subst (λ a. Put out at (listShows a w) (r .at) out′) (sym (unopened-tested w known z f done)) p;
+        within = omega (arith, p .next, refusal-length DamagedHeader);
         told = k;
       }
 
@@ -77,6 +80,36 @@ pub served-does : (w line : List ℕ) (c : Command) → (lineSays line) .command
     → commandDoes c ((lineSays line) .parents) ((lineSays line) .votes) w ≡ served w line
 unfolding served
 served-does w line c e = ap (λ x. commandDoes x ((lineSays line) .parents) ((lineSays line) .votes) w) (sym e)
+
+-- ---- what the words are after a line
+
+-- which of the two they are now
+pub record Kept (w : List ℕ) : Type 0 where
+  pub opened : Bool
+  pub keeps : Keeps opened w
+
+open-kept : (w : List ℕ) (s : Setting) → length w ≡ size → Kept w → Kept (openCall w s .words)
+open-kept w s h k = go (isGood s) refl
+  where
+    go : (good : Bool) → isGood s ≡ good → Kept (openCall w s .words)
+    go true g = record { opened = true; keeps = subst (λ o. Ledger (o .words)) (sym (open-good w h s g)) (open-keeps s g) }
+    go false g = subst (λ o. Kept (o .words)) (sym (open-bad w h s g)) k
+
+kept-length : (w : List ℕ) (opened : Bool) → Keeps opened w → length w ≡ size
+kept-length w true k = k .whole
+kept-length w false k = ap length k ∙ length-replicate {A = ℕ} size 0
+
+command-kept : (c : Command) (parents votes w : List ℕ) → Kept w → Kept (commandDoes c parents votes w .words)
+command-kept (Open s) parents votes w k = open-kept w s (kept-length w (k .opened) (k .keeps)) k
+command-kept (Book name slot count) parents votes w k = record { opened = k .opened; keeps = book-keeps w (k .opened) (k .keeps) name slot parents }
+command-kept (Poll name count) parents votes w k = record { opened = k .opened; keeps = poll-keeps w (k .opened) (k .keeps) name votes }
+command-kept (Read what name) parents votes w k = k
+command-kept ListAll parents votes w k = k
+command-kept Bad parents votes w k = k
+
+pub served-kept : (w line : List ℕ) → Kept w → Kept (served w line .words)
+unfolding served
+served-kept w line k = command-kept ((lineSays line) .command) ((lineSays line) .parents) ((lineSays line) .votes) w k
 
 -- ---- the lists of a line stand at the start of their buffers
 

@@ -30,26 +30,21 @@ call-length (Refused r) = refusal-length r
 
 -- ---- readings
 
-value-length : (a : Answer) → natAbs (value a) ≤ 512 → length (readingPrints a) ≤ answerMost
+value-length : (a : Answer) → (number a ≡ 0 → natAbs (value a) ≤ 512) → length (readingPrints a) ≤ answerMost
 unfolding signed
 value-length (Taken v) h =
-    simp length-append (omega (arith, sign-length v, decimal-length (natAbs v) (omega arith)))
+    simp length-append (omega (arith, sign-length v, decimal-length (natAbs v) (omega (arith, h refl))))
 value-length (Refused r) h = refusal-length r
 
 between-natAbs : {least most : ℕ} {z : ℤ} → Between least most z → natAbs z ≤ most
 between-natAbs {most = most} b = subst (λ y. natAbs y ≤ most) (sym (b .is)) (b .below)
 
--- a refused size has value 0, and a taken one is that of an ancestry
-size-natAbs : (a : Answer) → (number a ≡ 0 → Between 1 512 (value a)) → natAbs (value a) ≤ 512
-size-natAbs (Taken v) h = between-natAbs (h refl)
-size-natAbs (Refused r) h = omega arith
-
-reading-natAbs : (what : Reading) (w : List ℕ) (name : ℕ) → natAbs (value (readCall what w name)) ≤ 512
-reading-natAbs Query w name = omega (arith, between-natAbs (ranges .query w name))
-reading-natAbs Accepted w name = omega (arith, between-natAbs (ranges .accepted w name))
-reading-natAbs Lead w name = omega (arith, ranges .lead w name)
-reading-natAbs Confidence w name = omega (arith, between-natAbs (ranges .confidence w name))
-reading-natAbs Size w name = size-natAbs (readCall Size w name) (ranges .size w name)
+reading-natAbs : (what : Reading) (w : List ℕ) (name : ℕ) → number (readCall what w name) ≡ 0 → natAbs (value (readCall what w name)) ≤ 512
+reading-natAbs Query w name t = omega (arith, between-natAbs (ranges .query w name t))
+reading-natAbs Accepted w name t = omega (arith, between-natAbs (ranges .accepted w name t))
+reading-natAbs Lead w name t = omega (arith, ranges .lead w name t)
+reading-natAbs Confidence w name t = omega (arith, between-natAbs (ranges .confidence w name t))
+reading-natAbs Size w name t = between-natAbs (ranges .size w name t)
 
 pub reading-length : (what : Reading) (w : List ℕ) (name : ℕ) → length (readingPrints (readCall what w name)) ≤ answerMost
 reading-length what w name = value-length (readCall what w name) (reading-natAbs what w name)

@@ -1,13 +1,13 @@
 -- Document 01, "The text program": what one line does to the words, and what it prints.
 use Prim.Native.Nat.{ℕ, _+_, _≤_}
 use mathlib.Core.Path.{_≡_}
-use mathlib.Core.Bool.{Bool}
+use mathlib.Core.Bool.{Bool, true, false}
 use mathlib.Core.List.{List}
-use lib.ListN.{length}
+use lib.ListN.{length, replicate}
 use Rattle.terms.specs.declared.answer.Answer.{Answer}
 use Rattle.terms.specs.Answers.{Outcome}
 use Rattle.rules.specs.Layout.{size}
-use Rattle.rules.specs.IsSound.{isSound}
+use Rattle.rules.specs.Sound.{Ledger}
 use Rattle.rules.specs.Calls.{openCall, bookCall, pollCall, readCall}
 use Rattle.rules.specs.Listing.{listCall}
 use Rattle.text_put.specs.Put.{Put}
@@ -54,15 +54,20 @@ served w line = saidDoes (lineSays line) w
 
 -- ---- the contract of every function that serves
 
--- whether the workspace is sound is known, and there is room for the longest that a line prints
+-- what the program keeps: a ledger once one was opened, and until then words that are all zero
+abbrev pub Keeps : (opened : Bool) → List ℕ → Type 0
+Keeps true w = Ledger w
+Keeps false w = w ≡ replicate size 0
+
+-- which of them the words are is known, and there is room for the longest that a line prints
 pub record Ready (w : List ℕ) (known : Bool) (out : List ℕ) (at : ℕ) : Type 0 where
   pub whole : length w ≡ size
-  pub told : known ≡ isSound w
+  pub told : Keeps known w
   pub room : at + lineMost ≤ length out
 
--- the words and the bytes are those of the effect, and whether the words are sound is known again
+-- the words and the bytes are those of the effect, and which of them the words are is known again
 pub record Serves (e : Effect) (out : List ℕ) (at : ℕ) (r : Served) (w′ out′ : List ℕ) : Type 0 where
   pub left : w′ ≡ e .words
   pub put : Put out at (e .prints) (r .at) out′
   pub within : r .at ≤ at + lineMost
-  pub told : r .known ≡ isSound w′
+  pub told : Keeps (r .known) w′

@@ -1,18 +1,16 @@
-// What one line does to the workspace and prints. Whether the workspace is sound is known at all times, so it is never tested again.
+// What one line does to the workspace and prints. The words are all zero until a ledger is opened and a ledger from then on, and which is known at all
+// times: so no line tests them again, and the only damage that is ever told is that of words which were never opened.
 use line_parse::command::Command;
 use terms::answer::Answer;
 use terms::answer::Reading;
 use terms::answer::Refusal;
 use terms::setting::Setting;
 ghost use mathlib.Core.Path.{_≡_};
-ghost use lib.ListN.{length};
 ghost use Rattle.terms.specs.Answers.{outcome};
-ghost use Rattle.rules.specs.Layout.{size};
-ghost use Rattle.rules.specs.IsSound.{isSound};
 ghost use Rattle.rules.specs.Calls.{openCall, bookCall, pollCall, readCall};
-ghost use Rattle.line_serve.specs.Serve.{called, asked, listed, bad, served, Ready, Serves};
+ghost use Rattle.line_serve.specs.Serve.{called, asked, listed, bad, served, Keeps, Ready, Serves};
 
-// The offset after what was printed, and whether the workspace is sound now.
+// The offset after what was printed, and whether the workspace is a ledger now.
 pub struct Served {
     pub at: usize,
     pub known: bool,
@@ -31,15 +29,15 @@ fn serve_open(w: &mut [u16], known: bool, s: Setting, out: &mut [u8], at: usize)
     }
 }
 
-// A booking on a workspace that is known to be sound or not.
+// A booking on a workspace that is known to be a ledger or all zero.
 fn book(w: &mut [u16], known: bool, name: u64, slot: u16, parents: &[u64]) -> Answer
-    requires { ⌜ (length (now w) ≡ size) × (known ≡ isSound (now w)) ⌝ }
+    requires { ⌜ Keeps known (now w) ⌝ }
     ensures { λ r. ⌜ outcome r (now (w .exit)) ≡ bookCall (now (w .entry)) name slot (now (parents .entry)) ⌝ }
 {
     if known {
         known_book::book(w, name, slot, parents)
     } else {
-        Answer::Refused(Refusal::NotSound)
+        Answer::Refused(Refusal::DamagedHeader)
     }
 }
 
@@ -60,15 +58,15 @@ fn serve_book(
     Served { at: next, known }
 }
 
-// A poll on a workspace that is known to be sound or not.
+// A poll on a workspace that is known to be a ledger or all zero.
 fn poll(w: &mut [u16], known: bool, name: u64, votes: &[u8]) -> Answer
-    requires { ⌜ (length (now w) ≡ size) × (known ≡ isSound (now w)) ⌝ }
+    requires { ⌜ Keeps known (now w) ⌝ }
     ensures { λ r. ⌜ outcome r (now (w .exit)) ≡ pollCall (now (w .entry)) name (now (votes .entry)) ⌝ }
 {
     if known {
         known_poll::poll(w, name, votes)
     } else {
-        Answer::Refused(Refusal::NotSound)
+        Answer::Refused(Refusal::DamagedHeader)
     }
 }
 
@@ -88,15 +86,15 @@ fn serve_poll(
     Served { at: next, known }
 }
 
-// A reading of a workspace that is known to be sound or not.
+// A reading of a workspace that is known to be a ledger or all zero.
 fn read(w: &[u16], known: bool, name: u64, what: Reading) -> Answer
-    requires { ⌜ (length (now w) ≡ size) × (known ≡ isSound (now w)) ⌝ }
+    requires { ⌜ Keeps known (now w) ⌝ }
     ensures { λ r. ⌜ r ≡ readCall what (now (w .entry)) name ⌝ }
 {
     if known {
         known_read::ask(w, name, what)
     } else {
-        Answer::Refused(Refusal::NotSound)
+        Answer::Refused(Refusal::DamagedHeader)
     }
 }
 
@@ -117,7 +115,7 @@ fn serve_list(w: &[u16], known: bool, out: &mut [u8], at: usize) -> Served
         let next = text_listing::put_list(w, out, at);
         Served { at: next, known }
     } else {
-        let next = text_print::put_call(out, at, Answer::Refused(Refusal::NotSound));
+        let next = text_print::put_call(out, at, Answer::Refused(Refusal::DamagedHeader));
         Served { at: next, known }
     }
 }

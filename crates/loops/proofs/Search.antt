@@ -141,3 +141,13 @@ pub →none : (p : ℕ → Bool) (n : ℕ) → ((j : ℕ) → j < n → p j ≡ 
     go : Dec (first p n < n) → any p n ≡ false
     go (yes l) = absurd (true≢false (sym (first-hit p n l) ∙ h _ l))
     go (no l) = le-ltb (first p n) n (omega arith)
+
+-- not all pass exactly if some fails
+pub not-all : (p : ℕ → Bool) (n : ℕ) → any (λ i. not (p i)) n ≡ not (all p n)
+not-all p n = go (decLt (first (λ i. not (p i)) n) n)
+  where
+    go : Dec (first (λ i. not (p i)) n < n) → any (λ i. not (p i)) n ≡ not (all p n)
+    go (yes l) = lt-ltb (first (λ i. not (p i)) n) n l ∙ sym (ap not (ne-eqb (first (λ i. not (p i)) n) n (λ e. omega arith)))
+    go (no l) =
+        le-ltb (first (λ i. not (p i)) n) n (omega arith)
+        ∙ sym (ap not (eq-eqb (first (λ i. not (p i)) n) n (omega (arith, first-le (λ i. not (p i)) n))))

@@ -8,6 +8,7 @@ pub mod BookedRecords
 pub mod BookedSlots
 pub mod Booked
 pub mod Acceptance
+pub mod Damage
 pub mod Refusals
 pub mod Ranges
 pub mod Noted

@@ -1,7 +1,8 @@
--- Every number answered lies in its range: a refused reading is 0, and a taken one is that of a booking of a sound workspace.
+-- Every number answered lies in its range: a refused call has value 0 or a row, and a taken reading is that of a booking of a sound workspace.
 -- Rests on the bounds of the readings. Assumes nothing.
 use mathlib.Core.Path.{_≡_, refl, subst}
 use mathlib.Core.List.{List}
+use mathlib.Core.Logic.{_≢_}
 use Prim.Native.Nat.{ℕ, _<_, _≤_}
 use native.Mathlib.Decide.{ℕ-discrete}
 use native.Mathlib.Omega.{arith}
@@ -19,17 +20,33 @@ use Rattle.rule_laws.proofs.Calls.{refusalNumber-within, number-refused, value-
 use Rattle.rule_laws.proofs.Lookup.{found-below}
 use Rattle.rule_laws.proofs.Readings.{query-le, accepted-le, confidence-le, lead-le, size-least, size-most}
 use Rattle.promises.specs.Run.{outcomeOf}
+use Rattle.promises.specs.Damage.{Names}
 use Rattle.promises.specs.Ranges.{Between, Ranges}
+use Rattle.promises.proofs.Damage.{damage-named}
 use Rattle.promises.proofs.Taken.{reading-taken}
 
-number-le : (a : Answer) → number a ≤ 13
+number-le : (a : Answer) → number a ≤ 15
 number-le (Taken v) = omega arith
 number-le (Refused r) = refusalNumber-within r .1
 
 between : (least most n : ℕ) → least ≤ n → n ≤ most → Between least most (pos n)
 between least most n l u = record { number = n; is = refl; above = l; below = u }
 
--- ---- what holds of the reading at every booking of a ledger holds of the value answered
+-- ---- a refused call has value 0, or with 14 and 15 a row
+
+refused-row : (w : List ℕ) (a : Answer) → Names w (number a) (value a) → number a ≢ 0 → Between 0 512 (value a)
+refused-row w a names h = go (ℕ-discrete (number a) 14) (ℕ-discrete (number a) 15)
+  where
+    go : Dec (number a ≡ 14) → Dec (number a ≡ 15) → Between 0 512 (value a)
+    go (yes e) d =
+        let named = names .damagedRecord e in
+        rw (named .1) (between 0 512 (named .0) (omega arith) (omega (arith, named .2 .within)))
+    go (no k) (yes e) =
+        let named = names .damagedSlot e in
+        rw (named .1) (between 0 512 (named .0) (omega arith) (omega (arith, named .2 .within)))
+    go (no k) (no l) = rw (value-refused a h k l) (between 0 512 0 (omega arith) (omega arith))
+
+-- ---- what holds of the reading at every booking of a ledger holds of the value of a taken one
 
 module _ (P : ℤ → Type 0) (f : ℕ → ℤ) (w : List ℕ) (name : ℕ) (holds : (i : ℕ) → Ledger w → i < bookings w → P (f i)) where
   value-taken : number (readingCall f w name) ≡ 0 → P (value (readingCall f w name))
@@ -41,30 +58,23 @@ module _ (P : ℤ → Type 0) (f : ℕ → ℤ) (w : List ℕ) (name : ℕ) (hol
           subst P (taken .2) (holds (numberOf (lookUp w name)) (taken .0) (found-below w name _ (taken .1)))
       go (Refused r) e z = absurd (number-refused r z)
 
-  -- a refused one has value 0
-  value-any : P (pos 0) → P (value (readingCall f w name))
-  value-any refused = elim (ℕ-discrete (number (readingCall f w name)) 0) [
-    | yes z ↦ value-taken z
-    | no d ↦ rw (value-refused (readingCall f w name) d) refused
-  ]
-
--- a number up to the most, or 0
+-- a number up to the most
 value-most : (most : ℕ) (g : ℕ → ℕ) (w : List ℕ) (name : ℕ) → ((i : ℕ) → Ledger w → i < bookings w → g i ≤ most)
-    → Between 0 most (value (readingCall (λ i. pos (g i)) w name))
+    → number (readingCall (λ i. pos (g i)) w name) ≡ 0 → Between 0 most (value (readingCall (λ i. pos (g i)) w name))
 value-most most g w name bound =
-    value-any (Between 0 most) (λ i. pos (g i)) w name (λ i ledger h. between 0 most (g i) (omega arith) (bound i ledger h))
-    (between 0 most 0 (omega arith) (omega arith))
+    value-taken (Between 0 most) (λ i. pos (g i)) w name (λ i ledger h. between 0 most (g i) (omega arith) (bound i ledger h))
 
 -- a number from minus the most to the most
 value-within : (most : ℕ) (f : ℕ → ℤ) (w : List ℕ) (name : ℕ) → ((i : ℕ) → Ledger w → i < bookings w → natAbs (f i) ≤ most)
-    → natAbs (value (readingCall f w name)) ≤ most
-value-within most f w name bound = value-any (λ z. natAbs z ≤ most) f w name bound (omega arith)
+    → number (readingCall f w name) ≡ 0 → natAbs (value (readingCall f w name)) ≤ most
+value-within most f w name bound = value-taken (λ z. natAbs z ≤ most) f w name bound
 
 -- ---- the ranges
 
 pub ranges : Ranges
 ranges = record {
   numbers = λ c w. omega (arith, number-le (outcomeOf c w .answer));
+  refused = λ c w. refused-row w (outcomeOf c w .answer) (damage-named .calls c w);
   query = λ w name. value-most _ (λ i. bit (queryOf w i)) w name (λ i ledger h. omega (arith, query-le w i));
   accepted = λ w name. value-most _ (λ i. bit (acceptedOf w i)) w name (λ i ledger h. omega (arith, accepted-le w i));
   lead = λ w name. value-within _ (leadOf w) w name (λ i ledger h. omega (arith, lead-le w (ledger .sound) i h));

@@ -10,19 +10,20 @@ use lib.IntN.{ℤ}
 use lib.ListN.{length, getD}
 use lib.Dec.{eqb, leb, ltb}
 use borrow.Author.Tests.{eqb-true, eq-eqb, leb-true, le-leb, ltb-true, lt-ltb, not-true, not-false}
-use Rattle.loops.specs.Search.{any}
-use Rattle.loops.proofs.Search.{any→, →any}
+use Rattle.loops.specs.Search.{all, any}
+use Rattle.loops.proofs.Search.{any→, →any, not-all}
 use Rattle.terms.specs.declared.setting.Setting.{Setting}
 use Rattle.terms.specs.declared.answer.Found.{Found}
 use Rattle.terms.specs.declared.answer.Found.the-variants.{At, Absent}
 use Rattle.terms.specs.declared.answer.Refusal.{Refusal}
 use Rattle.terms.specs.declared.answer.Answer.{Answer}
-use Rattle.terms.specs.declared.answer.Answer.the-variants.{Taken, Refused}
+use Rattle.terms.specs.declared.answer.Answer.the-variants.{Refused}
 use Rattle.terms.specs.declared.vote.Vote.{Vote}
-use Rattle.terms.specs.Answers.{refusalNumber, number, value, leaves, done}
+use Rattle.terms.specs.Answers.{refusalNumber, number, value, done}
 use Rattle.rules.specs.Layout.{size, slots, mostParents, mostBookings, bookings, settingIn, stateOf}
 use Rattle.terms.specs.Setting.{Good, isGood}
-use Rattle.rules.specs.IsSound.{isSound}
+use Rattle.rules.specs.IsSound.{headerGood, recordRow, recordRows, badRecord, slotGood, badSlot}
+use Rattle.rules.specs.RowRules.{HeaderRules, RecordRules, SlotRules}
 use Rattle.rules.specs.Sound.{Sound}
 use Rattle.terms.specs.Votes.{voteOf, isRefused}
 use Rattle.rules.specs.Poll.{hasRefusedVote}
@@ -44,12 +45,14 @@ use Rattle.rules.specs.Calls.{
   readingCall,
   readCall,
 }
-use Rattle.rule_laws.proofs.Calls.{value-refused, open-refused, book-refused, poll-refused}
+use Rattle.rule_laws.proofs.Calls.{leaves-answer, value-refused, open-refused, book-refused, poll-refused}
 use Rattle.rule_laws.proofs.Good.{isGood→Good, Good→isGood}
-use Rattle.rule_laws.proofs.Sound.{isSound→Sound, Sound→isSound}
+use Rattle.rule_laws.proofs.RowRules.{headerGood→Rules, Rules→headerGood, recordRow→Rules, Rules→recordRow, slotGood→Rules, Rules→slotGood}
+use Rattle.rule_laws.proofs.Sound.{tests→Sound}
 use Rattle.rule_laws.proofs.Tested.{tested-in-order}
 use Rattle.rule_laws.proofs.Lookup.{found-below, found-name, absent-name, found-is}
 use Rattle.promises.specs.Run.{Open, Book, Poll, Ask, outcomeOf}
+use Rattle.promises.specs.Damage.{Broken}
 use Rattle.promises.specs.Refusals.{
   RefusedKeeps,
   Booked,
@@ -59,6 +62,7 @@ use Rattle.promises.specs.Refusals.{
   BadVote,
   refuses,
   OpenListed,
+  testedListed,
   BookListed,
   PollListed,
   ReadingListed,
@@ -119,8 +123,23 @@ differs-decides : (a b : ℕ) → Decides (not (eqb a b)) (a ≢ b)
 differs-decides a b = not-decides (eqb a b) (equal-decides a b)
 
 -- 2
-unsound-decides : (w : List ℕ) → Decides (not (isSound w)) (Sound w → ⊥)
-unsound-decides w = not-decides (isSound w) (decides-by (isSound→Sound w) (Sound→isSound w))
+header-decides : (w : List ℕ) → Decides (not (headerGood w)) (HeaderRules w → ⊥)
+header-decides w = not-decides (headerGood w) (decides-by (headerGood→Rules w) (Rules→headerGood w))
+
+-- 14 and 15: some row breaks a rule where not every one keeps its own
+broken-decides : (good : ℕ → Bool) {Rules : ℕ → Type 0} (end : ℕ) → ((i : ℕ) → Decides (good i) (Rules i)) → Decides (not (all good end)) (Broken Rules end)
+broken-decides good end tells =
+    let broken : Decides (any (λ i. not (good i)) end) (Broken _ end) =
+    any-decides (λ i. not (good i)) end
+    (λ i u e. record { row = i; within = u; breaks = not-decides (good i) (tells i) .passes e })
+    (λ b. (b .row, b .within, told _ (not-decides (good (b .row)) (tells (b .row))) (b .breaks))) in
+    rw (← not-all good end) broken
+
+records-decide : (w : List ℕ) → Decides (not (all (recordRow w) recordRows)) (Broken (RecordRules w) recordRows)
+records-decide w = broken-decides (recordRow w) recordRows (λ i. decides-by (recordRow→Rules w i) (Rules→recordRow w i))
+
+slots-decide : (w : List ℕ) → Decides (not (all (slotGood w) slots)) (Broken (SlotRules w) slots)
+slots-decide w = broken-decides (slotGood w) slots (λ s. decides-by (slotGood→Rules w s) (Rules→slotGood w s))
 
 -- 3
 bad-decides : (s : Setting) → Decides (not (isGood s)) (Good s → ⊥)
@@ -207,18 +226,18 @@ module _ {n : ℕ} {later : Type 0} where
   asked-first (At i) rest e tells onward = inr (λ d. d (tells .passes refl), onward i refl e)
   asked-first Absent rest e tells onward = inl (tells .fails refl, e)
 
--- 1 and 2, and what follows them knows that the workspace is sound
+-- 1, 2, 14 and 15, and what follows them knows that the workspace is sound
 tested-first : {n : ℕ} {later : Type 0} (w : List ℕ) (rest : Answer) → n ≡ number (tested testOf w rest) → (Sound w → n ≡ number rest → later)
-    → refuses (refusalNumber Refusal.WrongLength) (length w ≢ size) (refuses (refusalNumber Refusal.NotSound) (Sound w → ⊥) (λ k. later)) n
+    → testedListed w (λ k. later) n
+unfolding badRecord badSlot
 tested-first w rest e onward =
     refused-first Refusal.WrongLength _ _ (e ∙ ap number (tested-in-order w rest)) (differs-decides (length w) size) (λ t e.
-    refused-first Refusal.NotSound _ _ e (unsound-decides w) (λ t. onward (isSound→Sound w (not-false _ t))))
+    refused-first Refusal.DamagedHeader _ _ e (header-decides w) (λ header e.
+    refused-first (Refusal.DamagedRecord (badRecord w)) _ _ e (records-decide w) (λ records e.
+    refused-first (Refusal.DamagedSlot (badSlot w)) _ _ e (slots-decide w) (λ entries.
+    onward (tests→Sound w (not-false (headerGood w) header) (not-false (all (recordRow w) recordRows) records) (not-false (all (slotGood w) slots) entries))))))
 
 -- ---- the lists
-
-leaves-answer : (a : Answer) (before after : List ℕ) → leaves a before after .answer ≡ a
-leaves-answer (Taken v) before after = refl
-leaves-answer (Refused r) before after = refl
 
 open-listed : (w : List ℕ) (s : Setting) → OpenListed w s (number (openCall w s .answer))
 unfolding openCall

@@ -1,6 +1,6 @@
 -- What a taken call has passed: each of its tests failed, so the fact that each refusal would deny holds, and its words are the rule's.
 -- What a refused call leaves: every word. Assumes nothing.
-use mathlib.Core.Path.{_≡_, refl, sym, ap, _∙_}
+use mathlib.Core.Path.{_≡_, refl, sym, ap}
 use mathlib.Core.Bool.{Bool, true, false, cond, true≢false}
 use mathlib.Core.List.{List}
 use mathlib.Core.Logic.{_≢_}
@@ -17,6 +17,8 @@ use Rattle.terms.specs.declared.setting.Setting.{Setting}
 use Rattle.terms.specs.declared.answer.Found.{Found}
 use Rattle.terms.specs.declared.answer.Found.the-variants.{At, Absent}
 use Rattle.terms.specs.declared.answer.Refusal.{Refusal}
+use Rattle.terms.specs.declared.answer.Tested.{Tested}
+use Rattle.terms.specs.declared.answer.Tested.the-variants.{Fine, Stop}
 use Rattle.terms.specs.declared.answer.Answer.{Answer}
 use Rattle.terms.specs.declared.answer.Answer.the-variants.{Taken, Refused}
 use Rattle.terms.specs.Answers.{number, value, leaves}
@@ -26,11 +28,10 @@ use Rattle.rules.specs.Sound.{Ledger}
 use Rattle.rules.specs.Open.{opened}
 use Rattle.rules.specs.Book.{lookUp, numberOf, hasUnknown, hasTwice, booked}
 use Rattle.rules.specs.Poll.{polled}
-use Rattle.rules.specs.Calls.{openAnswer, openCall, testOf, tested, bookAnswer, bookCall, askedOf, pollAnswer, pollCall, readingCall}
+use Rattle.rules.specs.Calls.{openAnswer, openCall, testOf, unlessStopped, tested, bookAnswer, bookCall, askedOf, pollAnswer, pollCall, readingCall}
 use Rattle.rule_laws.proofs.Calls.{number-refused, open-refused, book-refused, poll-refused}
 use Rattle.rule_laws.proofs.Good.{isGood→Good}
-use Rattle.rule_laws.proofs.Sound.{isSound→Sound}
-use Rattle.rule_laws.proofs.Tested.{tested-in-order}
+use Rattle.rule_laws.proofs.Tested.{fine-ledger}
 use Rattle.rule_laws.proofs.Lookup.{isFound-false, absent-name, found-below}
 use Rattle.promises.specs.Run.{isTaken}
 
@@ -85,10 +86,11 @@ module _ {v : ℤ} where
   passed false r rest e = (refl, e)
 
   tested-passed : (w : List ℕ) (rest : Answer) → tested testOf w rest ≡ Taken v → Ledger w × (rest ≡ Taken v)
-  tested-passed w rest e =
-      let long = passed _ _ _ (sym (tested-in-order w rest) ∙ e) in
-      let sound = passed _ _ _ (long .1) in
-      (record { whole = eqb-true _ _ (not-false _ (long .0)); sound = isSound→Sound w (not-false _ (sound .0)) }, sound .1)
+  tested-passed w rest = go (testOf w) refl
+    where
+      go : (t : Tested) → testOf w ≡ t → unlessStopped t rest ≡ Taken v → Ledger w × (rest ≡ Taken v)
+      go Fine fine e = (fine-ledger w fine, e)
+      go (Stop r) stopped e = absurd (true≢false (sym (ap isTaken e)))
 
   asked-passed : (f : Found) (rest : ℕ → Answer) → askedOf f rest ≡ Taken v → (f ≡ At (numberOf f)) × (rest (numberOf f) ≡ Taken v)
   asked-passed (At i) rest e = (refl, e)

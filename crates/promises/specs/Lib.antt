@@ -2,6 +2,7 @@
 pub mod Run
 pub mod Soundness
 pub mod Acceptance
+pub mod Damage
 pub mod Refusals
 pub mod Confidence
 pub mod Lasting

@@ -1,6 +1,7 @@
 -- Every number answered lies in a known range: that of document 01 for lead, and what follows from its bounds for the others.
 use mathlib.Core.Path.{_≡_}
 use mathlib.Core.List.{List}
+use mathlib.Core.Logic.{_≢_}
 use Prim.Native.Nat.{ℕ, _≤_}
 use lib.IntN.{ℤ, pos, natAbs}
 use Rattle.terms.specs.Answers.{number, value}
@@ -14,11 +15,12 @@ pub record Between (least most : ℕ) (z : ℤ) : Type 0 where
   pub above : least ≤ number
   pub below : number ≤ most
 
--- the answers of any call on any words
+-- the answers of any call on any words: a refusal's value is 0 or a row, and each reading that is taken has its own range
 pub record Ranges : Type 0 where
-  pub numbers : (c : Call) (w : List ℕ) → number (outcomeOf c w .answer) ≤ 13
-  pub query : (w : List ℕ) (name : ℕ) → Between 0 1 (value (queryCall w name))
-  pub accepted : (w : List ℕ) (name : ℕ) → Between 0 1 (value (acceptedCall w name))
-  pub lead : (w : List ℕ) (name : ℕ) → natAbs (value (leadCall w name)) ≤ 511
-  pub confidence : (w : List ℕ) (name : ℕ) → Between 0 511 (value (confidenceCall w name))
+  pub numbers : (c : Call) (w : List ℕ) → number (outcomeOf c w .answer) ≤ 15
+  pub refused : (c : Call) (w : List ℕ) → number (outcomeOf c w .answer) ≢ 0 → Between 0 512 (value (outcomeOf c w .answer))
+  pub query : (w : List ℕ) (name : ℕ) → number (queryCall w name) ≡ 0 → Between 0 1 (value (queryCall w name))
+  pub accepted : (w : List ℕ) (name : ℕ) → number (acceptedCall w name) ≡ 0 → Between 0 1 (value (acceptedCall w name))
+  pub lead : (w : List ℕ) (name : ℕ) → number (leadCall w name) ≡ 0 → natAbs (value (leadCall w name)) ≤ 511
+  pub confidence : (w : List ℕ) (name : ℕ) → number (confidenceCall w name) ≡ 0 → Between 0 511 (value (confidenceCall w name))
   pub size : (w : List ℕ) (name : ℕ) → number (sizeCall w name) ≡ 0 → Between 1 512 (value (sizeCall w name))

@@ -1,4 +1,4 @@
--- Each refusal comes exactly in its listed case, the first in the order, with value 0, and changes no word.
+-- Each refusal comes exactly in its listed case, the first in the order, and changes no word. Its value is 0, or with 14 and 15 a row (Damage.antt).
 use mathlib.Core.Path.{_≡_}
 use mathlib.Core.List.{List}
 use mathlib.Core.Logic.{_≢_, _⊎_}
@@ -10,17 +10,20 @@ use Rattle.terms.specs.declared.answer.Reading.{Reading}
 use Rattle.terms.specs.Answers.{number, value}
 use Rattle.rules.specs.Layout.{size, slots, mostParents, mostBookings, bookings, settingIn, nameOf, stateOf}
 use Rattle.terms.specs.Setting.{Good}
-use Rattle.rules.specs.Sound.{Sound}
+use Rattle.rules.specs.IsSound.{recordRows}
+use Rattle.rules.specs.RowRules.{HeaderRules, RecordRules, SlotRules}
 use Rattle.rules.specs.Calls.{openCall, bookCall, pollCall, readCall}
 use Rattle.rules.specs.Listing.{listCall}
 use Rattle.promises.specs.Run.{Call, outcomeOf}
+use Rattle.promises.specs.Damage.{Broken}
 
 -- ---- a refused call changes nothing
 
 unfoldable pub RefusedKeeps : Type 0
 RefusedKeeps =
     (c : Call) (w : List ℕ) → number (outcomeOf c w .answer) ≢ 0
-    → (outcomeOf c w .words ≡ w) × (value (outcomeOf c w .answer) ≡ pos 0)
+    → (outcomeOf c w .words ≡ w)
+    × (number (outcomeOf c w .answer) ≢ 14 → number (outcomeOf c w .answer) ≢ 15 → value (outcomeOf c w .answer) ≡ pos 0)
 
 -- ---- the listed cases
 
@@ -74,12 +77,14 @@ OpenListed w s =
     (refuses 3 (Good s → ⊥)
     taken)
 
--- 1 and 2, which every call but open begins with
+-- 1, 2, 14 and 15, which every call but open begins with
 abbrev pub testedListed : List ℕ → (ℕ → Type 0) → ℕ → Type 0
 testedListed w rest =
     refuses 1 (length w ≢ size)
-    (refuses 2 (Sound w → ⊥)
-    rest)
+    (refuses 2 (HeaderRules w → ⊥)
+    (refuses 14 (Broken (RecordRules w) recordRows)
+    (refuses 15 (Broken (SlotRules w) slots)
+    rest)))
 
 abbrev pub BookListed : List ℕ → ℕ → ℕ → List ℕ → ℕ → Type 0
 BookListed w name slot parents =
@@ -107,7 +112,7 @@ ReadingListed w name =
     (refuses 10 (Booked w name → ⊥)
     taken)
 
--- list may be refused with 1 or 2 only
+-- list may be refused with 1, 2, 14 or 15 only
 abbrev pub ListListed : List ℕ → ℕ → Type 0
 ListListed w =
     testedListed w

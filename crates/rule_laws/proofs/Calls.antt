@@ -1,6 +1,6 @@
--- Refused calls leave every word and have value 0; open, book and poll have value 0 taken too.
+-- Refused calls leave every word and have value 0 unless they name a row; a taken open, book or poll has value 0.
 -- `leaves` hands the words before back in the one arm that a refusal takes, so each call cites one law. Assumes nothing.
-use mathlib.Core.Path.{_≡_, refl}
+use mathlib.Core.Path.{_≡_, refl, ap}
 use mathlib.Core.Bool.{Bool, true, false, cond}
 use mathlib.Core.List.{List}
 use mathlib.Core.Logic.{_≢_}
@@ -11,7 +11,7 @@ use Rattle.terms.specs.declared.setting.Setting.{Setting}
 use Rattle.terms.specs.declared.answer.Refusal.{Refusal}
 use Rattle.terms.specs.declared.answer.Refusal.the-variants.{
   WrongLength,
-  NotSound,
+  DamagedHeader,
   BadSetting,
   NameTaken,
   BadSlot,
@@ -23,6 +23,8 @@ use Rattle.terms.specs.declared.answer.Refusal.the-variants.{
   NotWaiting,
   WrongVotes,
   BadVote,
+  DamagedRecord,
+  DamagedSlot,
 }
 use Rattle.terms.specs.declared.answer.Found.{Found}
 use Rattle.terms.specs.declared.answer.Found.the-variants.{At, Absent}
@@ -30,15 +32,15 @@ use Rattle.terms.specs.declared.answer.Tested.{Tested}
 use Rattle.terms.specs.declared.answer.Tested.the-variants.{Fine, Stop}
 use Rattle.terms.specs.declared.answer.Answer.{Answer}
 use Rattle.terms.specs.declared.answer.Answer.the-variants.{Taken, Refused}
-use Rattle.terms.specs.Answers.{refusalNumber, number, value, Outcome, leaves}
+use Rattle.terms.specs.Answers.{refusalNumber, refusalRow, number, value, Outcome, leaves}
 use Rattle.rules.specs.Calls.{openAnswer, openCall, testOf, unlessStopped, bookAnswer, bookCall, pollAnswer, pollCall, askedOf}
 
 -- ---- the number tells a refusal from a taken call
 
--- a refusal's number is 1 to 13
-pub refusalNumber-within : (r : Refusal) → (1 ≤ refusalNumber r) × (refusalNumber r ≤ 13)
+-- a refusal's number is 1 to 15
+pub refusalNumber-within : (r : Refusal) → (1 ≤ refusalNumber r) × (refusalNumber r ≤ 15)
 refusalNumber-within WrongLength = omega arith
-refusalNumber-within NotSound = omega arith
+refusalNumber-within DamagedHeader = omega arith
 refusalNumber-within BadSetting = omega arith
 refusalNumber-within NameTaken = omega arith
 refusalNumber-within BadSlot = omega arith
@@ -50,24 +52,53 @@ refusalNumber-within UnknownName = omega arith
 refusalNumber-within NotWaiting = omega arith
 refusalNumber-within WrongVotes = omega arith
 refusalNumber-within BadVote = omega arith
+refusalNumber-within (DamagedRecord row) = omega arith
+refusalNumber-within (DamagedSlot row) = omega arith
 
 pub number-refused : (r : Refusal) → number (Refused r) ≢ 0
 number-refused r e = omega (arith, refusalNumber-within r .0)
 
+-- a writing call gives its answer
+pub leaves-answer : (a : Answer) (before after : List ℕ) → leaves a before after .answer ≡ a
+leaves-answer (Taken v) before after = refl
+leaves-answer (Refused r) before after = refl
+
 -- ---- refused
 
-pub value-refused : (a : Answer) → number a ≢ 0 → value a ≡ pos 0
-value-refused (Taken v) h = absurd (h refl)
-value-refused (Refused r) h = refl
+-- only 14 and 15 name a row
+row-other : (r : Refusal) → refusalNumber r ≢ 14 → refusalNumber r ≢ 15 → refusalRow r ≡ 0
+row-other WrongLength h k = refl
+row-other DamagedHeader h k = refl
+row-other BadSetting h k = refl
+row-other NameTaken h k = refl
+row-other BadSlot h k = refl
+row-other BadParents h k = refl
+row-other UnknownParent h k = refl
+row-other ParentTwice h k = refl
+row-other Full h k = refl
+row-other UnknownName h k = refl
+row-other NotWaiting h k = refl
+row-other WrongVotes h k = refl
+row-other BadVote h k = refl
+row-other (DamagedRecord row) h k = absurd (h refl)
+row-other (DamagedSlot row) h k = absurd (k refl)
 
--- what a refused writing call gives: every word stays, and the value is 0
+-- the value of a refused call that names no row
+abbrev pub Valueless : Answer → Type 0
+Valueless a = number a ≢ 14 → number a ≢ 15 → value a ≡ pos 0
+
+pub value-refused : (a : Answer) → number a ≢ 0 → Valueless a
+value-refused (Taken v) h = absurd (h refl)
+value-refused (Refused r) h = λ k l. ap pos (row-other r k l)
+
+-- what a refused writing call gives: every word stays, and the value is 0 unless the number is 14 or 15
 pub record Unmoved (w : List ℕ) (o : Outcome) : Type 0 where
   pub words : o .words ≡ w
-  pub value : value (o .answer) ≡ pos 0
+  pub value : Valueless (o .answer)
 
 pub leaves-refused : (a : Answer) (before after : List ℕ) → number (leaves a before after .answer) ≢ 0 → Unmoved before (leaves a before after)
 leaves-refused (Taken v) before after h = absurd (h refl)
-leaves-refused (Refused r) before after h = record { words = refl; value = refl }
+leaves-refused (Refused r) before after h = record { words = refl; value = value-refused (Refused r) h }
 
 pub open-refused : (w : List ℕ) (s : Setting) → number (openCall w s .answer) ≢ 0 → Unmoved w (openCall w s)
 unfolding openCall
@@ -81,7 +112,7 @@ pub poll-refused : (w : List ℕ) (name : ℕ) (votes : List ℕ) → number (po
 unfolding pollCall
 poll-refused w name votes = leaves-refused (pollAnswer testOf w name votes) w _
 
--- ---- open, book and poll have value 0, taken or refused
+-- ---- a taken open, book or poll has value 0
 
 value-cond : (t : Bool) (a b : Answer) → value (cond t a b) ≡ cond t (value a) (value b)
 value-cond true a b = refl
@@ -103,22 +134,25 @@ asked-same : (f : Found) → valueAsked f (λ i. pos 0) ≡ pos 0
 asked-same (At i) = refl
 asked-same Absent = refl
 
-value-stopped : (t : Tested) (rest : Answer) → value rest ≡ pos 0 → value (unlessStopped t rest) ≡ pos 0
-value-stopped Fine rest e = e
-value-stopped (Stop r) rest e = refl
+-- what the test stops may name a row
+taken-stopped : (t : Tested) (rest : Answer) → value rest ≡ pos 0 → number (unlessStopped t rest) ≡ 0 → value (unlessStopped t rest) ≡ pos 0
+taken-stopped Fine rest e h = e
+taken-stopped (Stop r) rest e h = absurd (number-refused r h)
 
-leaves-value : (a : Answer) (before after : List ℕ) → value a ≡ pos 0 → value (leaves a before after .answer) ≡ pos 0
+leaves-value : (a : Answer) (before after : List ℕ) → (number a ≡ 0 → value a ≡ pos 0) → number (leaves a before after .answer) ≡ 0
+    → value (leaves a before after .answer) ≡ pos 0
 leaves-value (Taken v) before after e = e
 leaves-value (Refused r) before after e = e
 
-pub open-value : (w : List ℕ) (s : Setting) → value (openCall w s .answer) ≡ pos 0
+pub open-value : (w : List ℕ) (s : Setting) → number (openCall w s .answer) ≡ 0 → value (openCall w s .answer) ≡ pos 0
 unfolding openCall
-open-value w s = leaves-value (openAnswer w s) w _ (simp (value-cond, cond-same))
+open-value w s = leaves-value (openAnswer w s) w _ (λ h. simp (value-cond, cond-same))
 
-pub book-value : (w : List ℕ) (name slot : ℕ) (parents : List ℕ) → value (bookCall w name slot parents .answer) ≡ pos 0
+pub book-value : (w : List ℕ) (name slot : ℕ) (parents : List ℕ) → number (bookCall w name slot parents .answer) ≡ 0
+    → value (bookCall w name slot parents .answer) ≡ pos 0
 unfolding bookCall
-book-value w name slot parents = leaves-value (bookAnswer testOf w name slot parents) w _ (value-stopped (testOf w) _ (simp (value-cond, cond-same)))
+book-value w name slot parents = leaves-value (bookAnswer testOf w name slot parents) w _ (taken-stopped (testOf w) _ (simp (value-cond, cond-same)))
 
-pub poll-value : (w : List ℕ) (name : ℕ) (votes : List ℕ) → value (pollCall w name votes .answer) ≡ pos 0
+pub poll-value : (w : List ℕ) (name : ℕ) (votes : List ℕ) → number (pollCall w name votes .answer) ≡ 0 → value (pollCall w name votes .answer) ≡ pos 0
 unfolding pollCall
-poll-value w name votes = leaves-value (pollAnswer testOf w name votes) w _ (value-stopped (testOf w) _ (simp (value-cond, value-asked, cond-same, asked-same)))
+poll-value w name votes = leaves-value (pollAnswer testOf w name votes) w _ (taken-stopped (testOf w) _ (simp (value-cond, value-asked, cond-same, asked-same)))

@@ -4,6 +4,7 @@ pub mod Good
 pub mod Lookup
 pub mod Bookings
 pub mod Entries
+pub mod RowRules
 pub mod Sound
 pub mod Slots
 pub mod Opened
@@ -17,3 +18,4 @@ pub mod SettledTurns
 pub mod SettledSlots
 pub mod Calls
 pub mod Tested
+pub mod Damage

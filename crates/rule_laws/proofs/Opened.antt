@@ -1,6 +1,5 @@
 -- A newly opened ledger: its length, each of its words by where it stands, and that it is sound.
 use mathlib.Core.Path.{_≡_, sym, ap, _∙_}
-use mathlib.Core.Bool.{true}
 use mathlib.Core.List.{[], _∷_}
 use mathlib.Core.Logic.{_≢_}
 use Prim.Native.Nat.{ℕ, _+_, _-_, _/_, _%_, _<_}
@@ -49,11 +48,10 @@ use Rattle.rules.specs.Layout.{
   lastIn,
   counterIn,
 }
-use Rattle.rules.specs.IsSound.{bookingsOf, isSound}
+use Rattle.rules.specs.IsSound.{bookingsOf}
 use Rattle.rules.specs.Sound.{BookingOf, EmptyEntry, HeldEntry, Sound, Ledger}
 use Rattle.rules.specs.Open.{openHeader, genesisRecord, openRecord, openEntry, openWord, opened}
 use Rattle.rule_laws.proofs.Bookings.{at-place}
-use Rattle.rule_laws.proofs.Sound.{Sound→isSound}
 
 pub length-opened : (s : Setting) → length (opened s) ≡ size
 unfolding opened
@@ -191,6 +189,3 @@ module _ (s : Setting) where
 
   pub opened-ledger : Good s → Ledger (opened s)
   opened-ledger good = record { whole = length-opened s; sound = Sound-opened good }
-
-  pub opened-isSound : Good s → isSound (opened s) ≡ true
-  opened-isSound good = Sound→isSound (opened s) (Sound-opened good)

@@ -7,21 +7,24 @@ use Prim.Native.Nat.{ℕ}
 use lib.IntN.{ℤ}
 use lib.ListN.{length}
 use lib.Dec.{eqb}
-use borrow.Author.Tests.{eqb-true, eq-eqb}
+use borrow.Author.Tests.{eqb-true, eq-eqb, ne-eqb}
 use Rattle.terms.specs.declared.answer.Found.the-variants.{At, Absent}
 use Rattle.terms.specs.declared.answer.Refusal.{Refusal}
-use Rattle.terms.specs.declared.answer.Refusal.the-variants.{WrongLength, NotSound, UnknownName}
+use Rattle.terms.specs.declared.answer.Refusal.the-variants.{WrongLength, DamagedHeader, DamagedRecord, DamagedSlot, UnknownName}
 use Rattle.terms.specs.declared.answer.Tested.{Tested}
 use Rattle.terms.specs.declared.answer.Tested.the-variants.{Fine, Stop}
 use Rattle.terms.specs.declared.answer.Answer.{Answer}
 use Rattle.terms.specs.declared.answer.Answer.the-variants.{Taken, Refused}
 use Rattle.terms.specs.Answers.{outcome, leaves}
-use Rattle.rules.specs.Layout.{size}
-use Rattle.rules.specs.IsSound.{isSound}
+use Rattle.rules.specs.Layout.{size, slots}
+use Rattle.rules.specs.IsSound.{headerGood, recordRow, recordRows, badRecord, slotGood, badSlot}
 use Rattle.rules.specs.Sound.{Ledger}
 use Rattle.rules.specs.Book.{lookUp}
 use Rattle.rules.specs.Calls.{testOf, unlessStopped, tested, askedOf, readingCall}
-use Rattle.rule_laws.proofs.Sound.{isSound→Sound, Sound→isSound}
+use Rattle.loops.specs.Search.{all}
+use Rattle.loops.proofs.Search.{→all}
+use Rattle.rule_laws.proofs.RowRules.{Rules→headerGood, Rules→recordRow, Rules→slotGood}
+use Rattle.rule_laws.proofs.Sound.{tests→Sound, header-kept, record-kept, slot-kept}
 
 -- ---- what stops
 
@@ -29,16 +32,20 @@ stopped-cond : (t : Bool) (r : Refusal) (more : Tested) (rest : Answer) → unle
 stopped-cond true r more rest = refl
 stopped-cond false r more rest = refl
 
--- a call's refusals 1 and 2 in their order, before its rest
+-- a call's refusals 1, 2, 14 and 15 in their order, before its rest
 pub tested-in-order : (w : List ℕ) (rest : Answer)
-    → tested testOf w rest ≡ cond (not (eqb (length w) size)) (Refused WrongLength) (cond (not (isSound w)) (Refused NotSound) rest)
+    → tested testOf w rest
+    ≡ cond (not (eqb (length w) size)) (Refused WrongLength)
+    (cond (not (headerGood w)) (Refused DamagedHeader)
+    (cond (not (eqb (badRecord w) recordRows)) (Refused (DamagedRecord (badRecord w)))
+    (cond (not (eqb (badSlot w) slots)) (Refused (DamagedSlot (badSlot w)))
+    rest)))
 unfolding testOf
-tested-in-order w rest =
-    stopped-cond (not (eqb (length w) size)) WrongLength _ rest
-    ∙ ap (cond (not (eqb (length w) size)) (Refused WrongLength)) (stopped-cond (not (isSound w)) NotSound Fine rest)
+tested-in-order w rest = simp stopped-cond
 
-pub tested-sound : (w : List ℕ) → length w ≡ size → isSound w ≡ false → (rest : Answer) → tested testOf w rest ≡ Refused NotSound
-tested-sound w h f rest = tested-in-order w rest ∙ rw (eq-eqb (length w) size h, f)
+-- a workspace that was never opened, or whose header is damaged
+pub tested-header : (w : List ℕ) → length w ≡ size → headerGood w ≡ false → (rest : Answer) → tested testOf w rest ≡ Refused DamagedHeader
+tested-header w h f rest = tested-in-order w rest ∙ rw (eq-eqb (length w) size h, f)
 
 pub stop-tested : (w : List ℕ) (r : Refusal) (rest : Answer) → testOf w ≡ Stop r → tested testOf w rest ≡ Refused r
 stop-tested w r rest e = ap (λ t. unlessStopped t rest) e
@@ -46,6 +53,27 @@ stop-tested w r rest e = ap (λ t. unlessStopped t rest) e
 -- a writing call that is stopped leaves every word
 pub stop-leaves : (w after : List ℕ) (r : Refusal) (rest : Answer) → testOf w ≡ Stop r → leaves (tested testOf w rest) w after ≡ outcome (Refused r) w
 stop-leaves w after r rest e = ap (λ a. leaves a w after) (stop-tested w r rest e)
+
+-- ---- the test of a workspace of the right length, case by case
+
+module _ (w : List ℕ) (long : length w ≡ size) where
+  pub test-header : headerGood w ≡ false → Stop DamagedHeader ≡ testOf w
+  unfolding testOf
+  test-header f = rw (eq-eqb (length w) size long, f)
+
+  module _ (header : headerGood w ≡ true) where
+    pub test-record : (row : ℕ) → row ≡ badRecord w → row ≢ recordRows → Stop (DamagedRecord row) ≡ testOf w
+    unfolding testOf
+    test-record row e h = rw (eq-eqb (length w) size long, header, ← e, ne-eqb row recordRows h)
+
+    module _ (records : recordRows ≡ badRecord w) where
+      pub test-slot : (s : ℕ) → s ≡ badSlot w → s ≢ slots → Stop (DamagedSlot s) ≡ testOf w
+      unfolding testOf
+      test-slot s e h = rw (eq-eqb (length w) size long, header, ← records, ← e, ne-eqb s slots h)
+
+      pub test-fine : slots ≡ badSlot w → Fine ≡ testOf w
+      unfolding testOf
+      test-fine e = rw (eq-eqb (length w) size long, header, ← records, ← e)
 
 -- ---- what is fine
 
@@ -58,14 +86,26 @@ fine-cond true r more e = (refl, e)
 fine-cond false r more e = absurd (true≢false (sym (ap isFine e)))
 
 pub fine-ledger : (w : List ℕ) → testOf w ≡ Fine → Ledger w
-unfolding testOf
+unfolding testOf badRecord badSlot
 fine-ledger w e =
     let long = fine-cond (eqb (length w) size) _ _ e in
-    record { whole = eqb-true (length w) size (long .0); sound = isSound→Sound w (fine-cond (isSound w) _ _ (long .1) .0) }
+    let header = fine-cond (headerGood w) _ _ (long .1) in
+    let records = fine-cond (all (recordRow w) recordRows) _ _ (header .1) in
+    let entries = fine-cond (all (slotGood w) slots) _ _ (records .1) in
+    record {
+      whole = eqb-true (length w) size (long .0);
+      sound = tests→Sound w (header .0) (records .0) (entries .0);
+    }
 
-ledger-fine : (w : List ℕ) → Ledger w → testOf w ≡ Fine
-unfolding testOf
-ledger-fine w l = rw (eq-eqb (length w) size (l .whole), Sound→isSound w (l .sound))
+pub ledger-fine : (w : List ℕ) → Ledger w → testOf w ≡ Fine
+unfolding testOf badRecord badSlot
+ledger-fine w l =
+    rw (
+      eq-eqb (length w) size (l .whole),
+      Rules→headerGood w (header-kept w (l .sound)),
+      →all (recordRow w) recordRows (λ i u. Rules→recordRow w i (record-kept w (l .sound) i)),
+      →all (slotGood w) slots (λ s u. Rules→slotGood w s (slot-kept w (l .sound) s u)),
+    )
 
 pub tested-known : (w : List ℕ) → Ledger w → (rest : Answer) → tested testOf w rest ≡ rest
 tested-known w l rest = ap (λ t. unlessStopped t rest) (ledger-fine w l)

@@ -1,7 +1,6 @@
--- Document 01, "Cases on each side": P1 to P12, one table under one statement, computed from the definitions on whole workspaces.
+-- Document 01, "Cases on each side": P1 to P12, and those of CR 1, one table under one statement, computed from the definitions on whole workspaces.
 -- Every step is a call with its refusals, as a user would make it, and every reading the number and the value that come back: a refusal is not taken for a 0.
-use mathlib.Core.Path.{_≡_, sym, ap, ap₂, fun-ext, _∙_}
-use mathlib.Core.Bool.{Bool}
+use mathlib.Core.Path.{_≡_, sym, ap, ap₂, _∙_}
 use mathlib.Core.List.{List, [], _∷_, _++_}
 use Prim.Native.Nat.{ℕ}
 use lib.IntN.{pos, negsuc}
@@ -14,6 +13,7 @@ use Rattle.loops.specs.Rows.{walkFrom}
 use Rattle.terms.specs.declared.answer.Reading.{Reading}
 use Rattle.terms.specs.declared.answer.Reading.the-variants.{Query, Accepted, Lead, Confidence, Size}
 use Rattle.terms.specs.declared.answer.Answer.{Answer}
+use Rattle.terms.specs.declared.answer.Tested.{Tested}
 use Rattle.terms.specs.Setting.{settingOf}
 use Rattle.terms.specs.Answers.{Outcome}
 use Rattle.rules.specs.Layout.{
@@ -30,6 +30,10 @@ use Rattle.rules.specs.Layout.{
   pollsField,
   withField,
   withHeader,
+  slotField,
+  confidenceField,
+  counterField,
+  heldField,
   lastField,
   withEntry,
 }
@@ -40,9 +44,9 @@ use Rattle.rules.specs.Open.{opened, openWord}
 use Rattle.rules.specs.Book.{lookUp, hasUnknown, hasTwice, entered, booked}
 use Rattle.rules.specs.Poll.{polled, raiseOne, prefer, follow, settleOne}
 use Rattle.rules.specs.Readings.{queryOf, acceptOne, acceptedOf, rivalsMost, leadOf, sizeOf}
-use Rattle.rules.specs.Calls.{openCall, testBy, testOf, bookBy, pollBy, readBy, bookCall, pollCall, readCall}
+use Rattle.rules.specs.Calls.{openCall, bookBy, pollBy, readBy, bookCall, pollCall, readCall}
 use Rattle.rules.proofs.Same.{sameNumbers, Got, got, Passes, passes, sameTable, same-table}
-use Rattle.rules.proofs.Walk.{isSoundWalked, walked-is}
+use Rattle.rules.proofs.Walk.{badRecordWalked, badSlotWalked, testWalked, test-walked-is}
 
 -- all confidences together
 abbrev confidences : List ℕ → ℕ
@@ -199,45 +203,93 @@ resting c =
 unfoldable pub restingSays : List (List Got)
 restingSays = (is 2 ∷ is 2 ∷ is 0 ∷ is 0 ∷ []) ∷ []
 
+-- ---- CR 1: one ledger, damaged in one word or in several. Bookings 1, 2 and 3 are a chain in slots 7, 8 and 9; 1 and 2 have chits, and 3 waits.
+-- So n is 4 and p is 2, two records are in state 2, and 2 is the confidence of the genesis and of 1, the counter of slots 0 and 7, and the bound of both.
+
+unfoldable pub damaged : CallsMade → List (List Got)
+damaged c =
+    let booked = c .book (c .book (openCall unopened (settingOf 1 1 1 2) .words) 1 7 (0 ∷ []) .words) 2 8 (1 ∷ []) .words in
+    let sound = c .poll (c .poll (c .book booked 3 9 (2 ∷ []) .words) 1 (1 ∷ []) .words) 2 (1 ∷ []) .words in
+    let counter = withEntry sound 7 counterField 3 in
+    let confidence = withField counter 1 confidenceField 3 in
+    let missing = withHeader sound pollsField 3 in
+    let refused = c .book missing 4 10 (0 ∷ []) in
+    -- nothing is damaged
+    (got (c .ask Size sound 3) ∷ [])
+    -- a name twice is charged to the higher record; of three holders the second is the lowest that breaks the rule
+    ∷ (got (c .ask Size (withField sound 3 3 2) 0) ∷ got (c .ask Size (withField (withField sound 3 3 1) 2 3 1) 0) ∷ got (c .ask Size (withField sound 1 3 0) 0) ∷ [])
+    -- so is an ordinal above 0; one above p breaks the rule at its lowest holder
+    ∷ (got (c .ask Size (withField sound 2 ordinalField 1) 0) ∷ got (c .ask Size (withField sound 1 ordinalField 3) 0) ∷ [])
+    -- ordinal 3 is missing, and that is charged to n; so is a word there that is not 0; the last record has number 511
+    ∷ (got (c .ask Size missing 0) ∷ got (c .ask Size (withField sound 4 slotField 1) 0) ∷ got (c .ask Size (withField sound 511 ordinalField 1) 0) ∷ [])
+    -- a confidence above the bound is charged to its record, a counter to its slot; of two slots the lower; records come before slots
+    ∷ (got (c .ask Size (withField sound 1 confidenceField 3) 0) ∷ got (c .ask Size counter 0) ∷ got (c .ask Size (withEntry counter 255 heldField 1) 0)
+    ∷ got (c .ask Size (withEntry counter 0 lastField 1) 0) ∷ got (c .ask Size confidence 0) ∷ [])
+    -- record 2 loses its chit: one record is left in state 2, and the genesis has a confidence of 2
+    ∷ (got (c .ask Size (withField sound 2 stateField 1) 0) ∷ [])
+    -- p = n breaks a header rule and hides the damage of record and slot; the wrong length hides that too
+    ∷ (got (c .ask Size (withHeader confidence pollsField 4) 0) ∷ got (c .ask Size (0 ∷ withHeader confidence pollsField 4) 0) ∷ got (c .ask Size unopened 0) ∷ [])
+    -- a booking and a poll are refused alike, and no word moves
+    ∷ (got (refused .answer) ∷ is (bit (sameNumbers (refused .words) missing)) ∷ got (c .poll counter 3 (1 ∷ []) .answer) ∷ [])
+    ∷ []
+
+unfoldable pub damagedSays : List (List Got)
+damagedSays =
+    (is 4 ∷ [])
+    ∷ ((14, pos 3) ∷ (14, pos 2) ∷ (14, pos 1) ∷ [])
+    ∷ ((14, pos 2) ∷ (14, pos 1) ∷ [])
+    ∷ ((14, pos 4) ∷ (14, pos 4) ∷ (14, pos 511) ∷ [])
+    ∷ ((14, pos 1) ∷ (15, pos 7) ∷ (15, pos 7) ∷ (15, pos 0) ∷ (14, pos 1) ∷ [])
+    ∷ ((14, pos 0) ∷ [])
+    ∷ ((2, pos 0) ∷ (1, pos 0) ∷ (2, pos 0) ∷ [])
+    ∷ ((14, pos 4) ∷ is 1 ∷ (15, pos 7) ∷ [])
+    ∷ []
+
 -- ---- the whole table, by the ledgers that the cases are made on
 
 -- what the cases give
 abbrev pub table : CallsMade → List (List Got)
-table c = diamond c ++ alone c ++ rivals c ++ resting c
+table c = diamond c ++ alone c ++ rivals c ++ resting c ++ damaged c
 
--- what document 01 says
+-- what document 01 and CR 1 say
 abbrev pub says : List (List Got)
-says = diamondSays ++ aloneSays ++ rivalsSay ++ restingSays
+says = diamondSays ++ aloneSays ++ rivalsSay ++ restingSays ++ damagedSays
 
 -- ---- computed with the test that walks
 
-abbrev made : (List ℕ → Bool) → CallsMade
-made sound = record { book = bookBy (testBy sound); poll = pollBy (testBy sound); ask = readBy (testBy sound) }
+abbrev made : (List ℕ → Tested) → CallsMade
+made test = record { book = bookBy test; poll = pollBy test; ask = readBy test }
 
-diamond-walked : Passes (sameTable (diamond (made isSoundWalked)) diamondSays)
-unfolding diamond diamondSays sameNumbers isSoundWalked headerGood genesisGood bookingGood parentsGood stateGood chits bookingsOf opened openWord lookUp hasUnknown hasTwice entered booked polled raiseOne prefer follow settleOne queryOf acceptOne acceptedOf rivalsMost leadOf sizeOf ancestry sweep spread voteOf openCall upTo firstFrom total greatest from walkFrom
+diamond-walked : Passes (sameTable (diamond (made testWalked)) diamondSays)
+unfolding diamond diamondSays sameNumbers testWalked badRecordWalked badSlotWalked headerGood genesisGood bookingGood parentsGood stateGood chits bookingsOf opened openWord lookUp hasUnknown hasTwice entered booked polled raiseOne prefer follow settleOne queryOf acceptOne acceptedOf rivalsMost leadOf sizeOf ancestry sweep spread voteOf openCall upTo firstFrom total greatest from walkFrom
 diamond-walked = tt
 
-alone-walked : Passes (sameTable (alone (made isSoundWalked)) aloneSays)
-unfolding alone aloneSays isSoundWalked headerGood genesisGood bookingGood parentsGood stateGood chits bookingsOf opened openWord lookUp hasUnknown hasTwice entered booked polled raiseOne prefer follow settleOne queryOf acceptOne acceptedOf rivalsMost leadOf sizeOf ancestry sweep spread voteOf openCall upTo firstFrom total greatest from walkFrom
+alone-walked : Passes (sameTable (alone (made testWalked)) aloneSays)
+unfolding alone aloneSays testWalked badRecordWalked badSlotWalked headerGood genesisGood bookingGood parentsGood stateGood chits bookingsOf opened openWord lookUp hasUnknown hasTwice entered booked polled raiseOne prefer follow settleOne queryOf acceptOne acceptedOf rivalsMost leadOf sizeOf ancestry sweep spread voteOf openCall upTo firstFrom total greatest from walkFrom
 alone-walked = tt
 
-rivals-walked : Passes (sameTable (rivals (made isSoundWalked)) rivalsSay)
-unfolding rivals rivalsSay isSoundWalked headerGood genesisGood bookingGood parentsGood stateGood chits bookingsOf opened openWord lookUp hasUnknown hasTwice entered booked polled raiseOne prefer follow settleOne queryOf acceptOne acceptedOf rivalsMost leadOf sizeOf ancestry sweep spread voteOf openCall upTo firstFrom total greatest from walkFrom
+rivals-walked : Passes (sameTable (rivals (made testWalked)) rivalsSay)
+unfolding rivals rivalsSay testWalked badRecordWalked badSlotWalked headerGood genesisGood bookingGood parentsGood stateGood chits bookingsOf opened openWord lookUp hasUnknown hasTwice entered booked polled raiseOne prefer follow settleOne queryOf acceptOne acceptedOf rivalsMost leadOf sizeOf ancestry sweep spread voteOf openCall upTo firstFrom total greatest from walkFrom
 rivals-walked = tt
 
-resting-walked : Passes (sameTable (resting (made isSoundWalked)) restingSays)
-unfolding resting restingSays isSoundWalked headerGood genesisGood bookingGood parentsGood stateGood chits bookingsOf opened openWord lookUp hasUnknown hasTwice entered booked polled raiseOne prefer follow settleOne queryOf acceptOne acceptedOf rivalsMost leadOf sizeOf ancestry sweep spread voteOf openCall upTo firstFrom total greatest from walkFrom
+resting-walked : Passes (sameTable (resting (made testWalked)) restingSays)
+unfolding resting restingSays testWalked badRecordWalked badSlotWalked headerGood genesisGood bookingGood parentsGood stateGood chits bookingsOf opened openWord lookUp hasUnknown hasTwice entered booked polled raiseOne prefer follow settleOne queryOf acceptOne acceptedOf rivalsMost leadOf sizeOf ancestry sweep spread voteOf openCall upTo firstFrom total greatest from walkFrom
 resting-walked = tt
 
--- one ledger's rows, by the calls of the law
-rows-by : (rows : CallsMade → List (List Got)) (said : List (List Got)) → Passes (sameTable (rows (made isSoundWalked)) said) → rows theCalls ≡ said
-unfolding theCalls bookCall pollCall testOf
-rows-by rows said walked = ap (λ sound. rows (made sound)) (fun-ext (λ w. sym (walked-is w))) ∙ same-table (rows (made isSoundWalked)) said (passes _ walked)
+damaged-walked : Passes (sameTable (damaged (made testWalked)) damagedSays)
+unfolding damaged damagedSays sameNumbers testWalked badRecordWalked badSlotWalked headerGood genesisGood bookingGood parentsGood stateGood chits bookingsOf opened openWord lookUp hasUnknown hasTwice entered booked polled raiseOne prefer follow settleOne queryOf acceptOne acceptedOf rivalsMost leadOf sizeOf ancestry sweep spread voteOf openCall upTo firstFrom total greatest from walkFrom
+damaged-walked = tt
 
--- the statement: the cases are as document 01 says
+-- one ledger's rows, by the calls of the law
+rows-by : (rows : CallsMade → List (List Got)) (said : List (List Got)) → Passes (sameTable (rows (made testWalked)) said) → rows theCalls ≡ said
+unfolding theCalls bookCall pollCall
+rows-by rows said walked = ap (λ test. rows (made test)) (sym test-walked-is) ∙ same-table (rows (made testWalked)) said (passes _ walked)
+
+-- the statement: the cases are as the documents say
 pub cases : table theCalls ≡ says
 cases =
     ap₂ _++_
+    (ap₂ _++_
     (ap₂ _++_ (ap₂ _++_ (rows-by diamond diamondSays diamond-walked) (rows-by alone aloneSays alone-walked)) (rows-by rivals rivalsSay rivals-walked))
-    (rows-by resting restingSays resting-walked)
+    (rows-by resting restingSays resting-walked))
+    (rows-by damaged damagedSays damaged-walked)

@@ -17,7 +17,7 @@ use Rattle.terms.specs.declared.answer.Answer.{Answer}
 use Rattle.terms.specs.declared.answer.Answer.the-variants.{Taken, Refused}
 use Rattle.terms.specs.declared.answer.Refusal.the-variants.{
   WrongLength,
-  NotSound,
+  DamagedHeader,
   BadSetting,
   NameTaken,
   BadSlot,
@@ -29,11 +29,13 @@ use Rattle.terms.specs.declared.answer.Refusal.the-variants.{
   NotWaiting,
   WrongVotes,
   BadVote,
+  DamagedRecord,
+  DamagedSlot,
 }
 use Rattle.rules.specs.Layout.{size, slots, mostParents, mostBookings, bookings, settingIn, stateOf}
 use Rattle.terms.specs.Setting.{isGood}
 use Rattle.terms.specs.Answers.{Outcome, leaves, done}
-use Rattle.rules.specs.IsSound.{isSound}
+use Rattle.rules.specs.IsSound.{headerGood, recordRows, badRecord, badSlot}
 use Rattle.rules.specs.Open.{opened}
 use Rattle.rules.specs.Book.{lookUp, isFound, numberOf, hasUnknown, hasTwice, booked}
 use Rattle.rules.specs.Poll.{hasRefusedVote, polled}
@@ -52,15 +54,17 @@ openCall w s = leaves (openAnswer w s) w (opened s)
 
 -- ---- what the other calls begin with
 
--- refusals 1 and 2: the first that applies, if any
-abbrev pub testBy : (List ℕ → Bool) → List ℕ → Tested
-testBy sound w =
+-- refusals 1, 2, 14 and 15: the first that applies, if any; 14 and 15 name the lowest row that breaks a rule
+abbrev pub testBy : (lowestRecord lowestSlot : List ℕ → ℕ) → List ℕ → Tested
+testBy lowestRecord lowestSlot w =
     cond (not (eqb (length w) size)) (Stop WrongLength)
-    (cond (not (sound w)) (Stop NotSound)
-    Fine)
+    (cond (not (headerGood w)) (Stop DamagedHeader)
+    (cond (not (eqb (lowestRecord w) recordRows)) (Stop (DamagedRecord (lowestRecord w)))
+    (cond (not (eqb (lowestSlot w) slots)) (Stop (DamagedSlot (lowestSlot w)))
+    Fine)))
 
 unfoldable pub testOf : List ℕ → Tested
-testOf = testBy isSound
+testOf = testBy badRecord badSlot
 
 -- the rest of a call that no test stops
 abbrev pub unlessStopped : Tested → Answer → Answer
@@ -98,13 +102,13 @@ parentsAnswer w parents =
     (cond (eqb (bookings w) mostBookings) (Refused Full)
     done))
 
--- The other calls first test the workspace. Their test is `testOf`; that the section takes it as a parameter lets the table of cases
--- be computed with a faster one of the same results (proofs/Cases.antt).
+-- The other calls first test the workspace. Their test is `testOf`; that the section takes it as a parameter, as `testBy` takes its searches, lets
+-- the table of cases be computed with faster ones of the same results (proofs/Cases.antt).
 module _ (test : List ℕ → Tested) where
   abbrev pub tested : List ℕ → Answer → Answer
   tested w rest = unlessStopped (test w) rest
 
-  -- ---- book: 1, 2, 4, 5, 6, 7, 8, 9
+  -- ---- book: 1, 2, 14, 15, 4, 5, 6, 7, 8, 9
 
   abbrev pub bookAnswer : List ℕ → ℕ → ℕ → List ℕ → Answer
   bookAnswer w name slot parents =
@@ -117,7 +121,7 @@ module _ (test : List ℕ → Tested) where
   abbrev pub bookBy : List ℕ → ℕ → ℕ → List ℕ → Outcome
   bookBy w name slot parents = leaves (bookAnswer w name slot parents) w (booked w name slot parents)
 
-  -- ---- poll: 1, 2, 10, 11, 12, 13
+  -- ---- poll: 1, 2, 14, 15, 10, 11, 12, 13
 
   abbrev pub pollAnswer : List ℕ → ℕ → List ℕ → Answer
   pollAnswer w name votes =
@@ -131,7 +135,7 @@ module _ (test : List ℕ → Tested) where
   abbrev pub pollBy : List ℕ → ℕ → List ℕ → Outcome
   pollBy w name votes = leaves (pollAnswer w name votes) w (polled w (numberOf (lookUp w name)) votes)
 
-  -- ---- readings: 1, 2, 10
+  -- ---- readings: 1, 2, 14, 15, 10
 
   abbrev pub readingBy : (ℕ → ℤ) → List ℕ → ℕ → Answer
   readingBy reading w name = tested w (askedOf (lookUp w name) (λ i. Taken (reading i)))

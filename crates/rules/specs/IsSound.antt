@@ -1,10 +1,10 @@
--- Document 01, "A workspace is sound exactly if": the test, by the header, each record, the ordinals as a whole and each slot entry.
--- Sound.antt says the same sentence by sentence.
-use Prim.Native.Nat.{ℕ, _+_}
+-- Document 01, "A workspace is sound exactly if", and CR 1: the test, by rows. There is the header, a row for each record number from 0 to 512,
+-- and a row for each slot; a workspace is sound where no row breaks a rule. Sound.antt says the same sentence by sentence.
+use Prim.Native.Nat.{ℕ, suc, _+_}
 use mathlib.Core.Bool.{Bool, _&&_, _||_, not, cond}
 use mathlib.Core.List.{List}
 use lib.Dec.{ltb, leb, eqb}
-use Rattle.loops.specs.Search.{all, any}
+use Rattle.loops.specs.Search.{first, all, any}
 use Rattle.loops.specs.Total.{count}
 use Rattle.terms.specs.Setting.{isGood}
 use Rattle.rules.specs.Layout.{
@@ -46,7 +46,7 @@ headerGood w =
     leb 1 (bookings w) && leb (bookings w) mostBookings && isGood (settingIn w) && ltb (polls w) (bookings w)
     && eqb (header w spareField) 0 && eqb (header w (spareField + 1)) 0
 
--- ---- records
+-- ---- record rows
 
 -- name 0, slot 0, no parents, state 1, ordinal 0
 unfoldable pub genesisGood : List ℕ → Bool
@@ -94,15 +94,23 @@ ordinalsHeld w = all (λ o. any (λ i. eqb (ordinalOf w i) (o + 1)) (bookings w)
 abbrev pub recordZero : List ℕ → ℕ → Bool
 recordZero w i = all (λ f. eqb (field w i f) 0) recordWords
 
--- a record from n on is all zero
+-- a row from n on: a record there is all zero, and a missing ordinal is charged to row n. Row 512 has no record: n may be 512
 abbrev pub restGood : List ℕ → ℕ → Bool
-restGood w i = ltb i (bookings w) || recordZero w i
+restGood w i = (leb mostBookings i || recordZero w i) && (not (eqb i (bookings w)) || ordinalsHeld w)
 
-unfoldable pub recordsGood : List ℕ → Bool
-recordsGood w =
-    all (recordGood w) (bookings w) && ordinalsHeld w && all (restGood w) mostBookings
+-- row i keeps its rules
+abbrev pub recordRow : List ℕ → ℕ → Bool
+recordRow w i = cond (ltb i (bookings w)) (recordGood w i) (restGood w i)
 
--- ---- slot entries
+-- numbers 0 to 512
+abbrev pub recordRows : ℕ
+recordRows = suc mostBookings
+
+-- the lowest row that breaks a rule, or 513
+unfoldable pub badRecord : List ℕ → ℕ
+badRecord w = first (λ i. not (recordRow w i)) recordRows
+
+-- ---- slot rows
 
 -- i is a booking of slot s
 abbrev pub isBookingOf : List ℕ → ℕ → ℕ → Bool
@@ -119,10 +127,11 @@ entryHeld w s =
 unfoldable pub slotGood : List ℕ → ℕ → Bool
 slotGood w s = cond (eqb (bookingsOf w s) 0) (entryEmpty w s) (entryHeld w s)
 
-unfoldable pub slotsGood : List ℕ → Bool
-slotsGood w = all (slotGood w) slots
+-- the lowest slot that breaks a rule, or 256
+unfoldable pub badSlot : List ℕ → ℕ
+badSlot w = first (λ s. not (slotGood w s)) slots
 
--- ---- the whole
+-- ---- the whole: no row breaks a rule
 
 unfoldable pub isSound : List ℕ → Bool
-isSound w = headerGood w && recordsGood w && slotsGood w
+isSound w = headerGood w && all (recordRow w) recordRows && all (slotGood w) slots

@@ -4,6 +4,7 @@ pub mod Layout
 pub mod Ancestry
 pub mod IsSound
 pub mod Sound
+pub mod RowRules
 pub mod Open
 pub mod Book
 pub mod Poll

@@ -5,6 +5,6 @@ use Rattle.terms.specs.declared.answer.Answer.{Answer}
 use Rattle.terms.specs.Answers.{done}
 use Rattle.rules.specs.Calls.{testOf, tested}
 
--- it may be refused with 1 or 2 only
+-- it may be refused with 1, 2, 14 or 15 only
 unfoldable pub listCall : List ℕ → Answer
 listCall w = tested testOf w done

@@ -2,3 +2,4 @@
 pub mod Searches
 pub mod Marks
 pub mod Counts
+pub mod RecordRows

@@ -58,5 +58,8 @@ unfolding bookingGood
 bookingGood-marked w i h =
     judged (nameNew w i && leb 1 (slotOf w i) && ltb (slotOf w i) slots && parentsGood w i) (stateGood w i) _ _ (λ e. rw (bitAt-ordinalsBelow w i (ordinalOf w i) (ordinal-lt w i h e)))
 
-pub ordinalsHeld-marked : (w : List ℕ) → polls w < mostBookings → all (λ o. bitAt (ordinalsBelow w (bookings w)) (o + 1)) (polls w) ≡ ordinalsHeld w
-ordinalsHeld-marked w h = all-same _ _ (polls w) (λ o l. bitAt-ordinalsBelow w (bookings w) (o + 1) (omega arith))
+-- the marks that a whole pass leaves say whether every ordinal is held
+pub marked-held : (w marks : List ℕ) (p i : ℕ) → polls w < mostBookings → p ≡ polls w → marks ≡ ordinalsBelow w i → i ≡ bookings w
+    → all (λ o. bitAt marks (o + 1)) p ≡ ordinalsHeld w
+marked-held w marks p i h polled marked reached =
+    rw (polled, marked, reached) (all-same _ _ (polls w) (λ o l. bitAt-ordinalsBelow w (bookings w) (o + 1) (omega arith)))

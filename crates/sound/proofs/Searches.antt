@@ -33,7 +33,7 @@ search-from p n (suc m) h fails =
     rw (← add-one m) (search-miss p n m (search-from p n m (omega arith) (λ j l. fails j (omega arith))) h (fails m (omega arith)))
 
 -- tests that agree below n find the same
-firstFrom-same : (p q : ℕ → Bool) (i k : ℕ) → ((j : ℕ) → i ≤ j → j < i + k → p j ≡ q j) → firstFrom p i k ≡ firstFrom q i k
+pub firstFrom-same : (p q : ℕ → Bool) (i k : ℕ) → ((j : ℕ) → i ≤ j → j < i + k → p j ≡ q j) → firstFrom p i k ≡ firstFrom q i k
 unfolding firstFrom
 firstFrom-same p q i zero h = refl
 firstFrom-same p q i (suc k) h =

@@ -5,7 +5,7 @@ ghost use mathlib.Core.Path.{_≡_};
 ghost use mathlib.Core.Bool.{not};
 ghost use Rattle.loops.specs.Search.{first};
 ghost use Rattle.rules.specs.Layout.{slots};
-ghost use Rattle.rules.specs.IsSound.{chits, slotGood, slotsGood};
+ghost use Rattle.rules.specs.IsSound.{chits, slotGood, badSlot};
 ghost use Rattle.sound_rows.specs.HasBookings.{HasBookings};
 ghost use Rattle.sound.specs.Held.{heldBelow};
 
@@ -23,11 +23,12 @@ fn bad_entry(w: &[u16], n: usize, limit: usize, held: &[u16]) -> usize
     layout::SLOTS
 }
 
-pub(crate) fn slots_good(w: &[u16], n: usize, limit: usize) -> bool
+// The same, with the bookings counted first.
+pub(crate) fn bad_slot(w: &[u16], n: usize, limit: usize) -> usize
     requires { ⌜ HasBookings (now w) n × (limit ≡ chits (now w)) ⌝ }
-    ensures { λ r. ⌜ r ≡ slotsGood (now (w .entry)) ⌝ }
+    ensures { λ r. ⌜ r ≡ badSlot (now (w .entry)) ⌝ }
 {
     let mut held = [0u16; layout::SLOTS];
     held::count_all(w, n, &mut held);
-    bad_entry(w, n, limit, &held) == layout::SLOTS
+    bad_entry(w, n, limit, &held)
 }

@@ -6,10 +6,14 @@ ghost use mathlib.Core.Bool.{not};
 ghost use Prim.Native.Nat.{_<_};
 ghost use Rattle.loops.specs.Search.{first};
 ghost use Rattle.rules.specs.Layout.{mostBookings, polls};
-ghost use Rattle.rules.specs.IsSound.{chits, nameNew, bookingGood, recordGood, recordsGood, restGood};
+ghost use Rattle.rules.specs.IsSound.{chits, nameNew, bookingGood, recordGood, recordRows, badRecord};
 ghost use Rattle.name_filter.specs.Names.{namesBelow};
 ghost use Rattle.sound_rows.specs.HasBookings.{HasBookings};
 ghost use Rattle.sound.specs.Ordinals.{ordinalsBelow, Reached};
+ghost use Rattle.sound.specs.Rest.{isClear};
+
+// A row for each record, and one more: in a full ledger a missing ordinal is charged to number 512.
+pub(crate) const ROWS: usize = layout::MOST_BOOKINGS + 1;
 
 // How many of the n records are in state 2.
 pub(crate) fn chits(w: &[u16], n: usize) -> usize
@@ -66,28 +70,33 @@ fn bad_record(w: &[u16], n: usize, limit: usize, marks: &mut [u64], filter: &mut
     n
 }
 
-// The lowest record from n on that is not all zero, or 512.
+// The lowest row from n on whose record is not all zero, or 513.
 fn stray_record(w: &[u16], n: usize) -> usize
     requires { ⌜ HasBookings (now w) n ⌝ }
-    ensures { λ r. ⌜ r ≡ first (λ i. not (restGood (now (w .entry)) i)) mostBookings ⌝ }
+    ensures { λ r. ⌜ r ≡ first (λ i. not (isClear (now (w .entry)) i)) recordRows ⌝ }
 {
     for i in n..layout::MOST_BOOKINGS {
         if !sound_rows::record::record_zero(w, i) {
             return i;
         }
     }
-    layout::MOST_BOOKINGS
+    ROWS
 }
 
-pub(crate) fn records_good(w: &[u16], n: usize, limit: usize) -> bool
+// The lowest row that breaks a rule, or 513: a record below n, then n for a missing ordinal, then a record that is not all zero.
+pub(crate) fn bad_row(w: &[u16], n: usize, limit: usize) -> usize
     requires { ⌜ HasBookings (now w) n × (polls (now w) < mostBookings) × (limit ≡ chits (now w)) ⌝ }
-    ensures { λ r. ⌜ r ≡ recordsGood (now (w .entry)) ⌝ }
+    ensures { λ r. ⌜ r ≡ badRecord (now (w .entry)) ⌝ }
 {
     let p = words::wide(words::header(w, layout::POLLS));
     let mut marks = [0u64; ordinals::MARK_WORDS];
     let mut filter = [0u64; name_filter::FILTER_WORDS];
-    if bad_record(w, n, limit, &mut marks, &mut filter) == n {
-        return ordinals::all_marked(&marks, p) & (stray_record(w, n) == layout::MOST_BOOKINGS);
+    let row = bad_record(w, n, limit, &mut marks, &mut filter);
+    if row != n {
+        return row;
     }
-    false
+    if ordinals::all_marked(&marks, p) {
+        return stray_record(w, n);
+    }
+    n
 }

@@ -29,7 +29,7 @@ pub extern "C" fn filz_open(
     tell(ledger::open(ws, Setting { k, a, beta1, beta2 }), value)
 }
 
-// One booking more. Refusals 1, 2, 4, 5, 6, 7, 8, 9.
+// One booking more. Refusals 1, 2, 14, 15, 4, 5, 6, 7, 8, 9.
 #[no_mangle]
 pub extern "C" fn filz_book(
     ws: &mut [u16],
@@ -43,7 +43,7 @@ pub extern "C" fn filz_book(
     tell(ledger::book(ws, name, slot, parents), value)
 }
 
-// A completed poll. Refusals 1, 2, 10, 11, 12, 13.
+// A completed poll. Refusals 1, 2, 14, 15, 10, 11, 12, 13.
 #[no_mangle]
 pub extern "C" fn filz_poll(ws: &mut [u16], name: u64, votes: &[u8], value: &mut i64) -> u32
     ensures { λ r. ⌜ Handed (pollCall (now (ws .entry)) name (now (votes .entry))) r (now (value .exit)) (now (ws .exit)) ⌝ }
@@ -51,7 +51,7 @@ pub extern "C" fn filz_poll(ws: &mut [u16], name: u64, votes: &[u8], value: &mut
     tell(ledger::poll(ws, name, votes), value)
 }
 
-// 1 if the whole ancestry is preferred, else 0. Refusals 1, 2, 10, as for every reading below.
+// 1 if the whole ancestry is preferred, else 0. Refusals 1, 2, 14, 15, 10, as for every reading below.
 #[no_mangle]
 pub extern "C" fn filz_query(ws: &[u16], name: u64, value: &mut i64) -> u32
     ensures { λ r. ⌜ Returned (queryCall (now (ws .entry)) name) r (now (value .exit)) ⌝ }

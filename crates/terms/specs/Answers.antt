@@ -5,7 +5,7 @@ use lib.IntN.{ℤ, pos}
 use Rattle.terms.specs.declared.answer.Refusal.{Refusal}
 use Rattle.terms.specs.declared.answer.Refusal.the-variants.{
   WrongLength,
-  NotSound,
+  DamagedHeader,
   BadSetting,
   NameTaken,
   BadSlot,
@@ -17,13 +17,15 @@ use Rattle.terms.specs.declared.answer.Refusal.the-variants.{
   NotWaiting,
   WrongVotes,
   BadVote,
+  DamagedRecord,
+  DamagedSlot,
 }
 use Rattle.terms.specs.declared.answer.Answer.{Answer}
 use Rattle.terms.specs.declared.answer.Answer.the-variants.{Taken, Refused}
 
 abbrev pub refusalNumber : Refusal → ℕ
 refusalNumber WrongLength = 1
-refusalNumber NotSound = 2
+refusalNumber DamagedHeader = 2
 refusalNumber BadSetting = 3
 refusalNumber NameTaken = 4
 refusalNumber BadSlot = 5
@@ -35,15 +37,35 @@ refusalNumber UnknownName = 10
 refusalNumber NotWaiting = 11
 refusalNumber WrongVotes = 12
 refusalNumber BadVote = 13
+refusalNumber (DamagedRecord row) = 14
+refusalNumber (DamagedSlot row) = 15
 
--- a taken call returns 0 and its value, a refusal its number and value 0
+-- the lowest row that breaks a rule, where a record or a slot is damaged; 0 for every other refusal
+abbrev pub refusalRow : Refusal → ℕ
+refusalRow WrongLength = 0
+refusalRow DamagedHeader = 0
+refusalRow BadSetting = 0
+refusalRow NameTaken = 0
+refusalRow BadSlot = 0
+refusalRow BadParents = 0
+refusalRow UnknownParent = 0
+refusalRow ParentTwice = 0
+refusalRow Full = 0
+refusalRow UnknownName = 0
+refusalRow NotWaiting = 0
+refusalRow WrongVotes = 0
+refusalRow BadVote = 0
+refusalRow (DamagedRecord row) = row
+refusalRow (DamagedSlot row) = row
+
+-- a taken call returns 0 and its value, a refusal its number and its row
 abbrev pub number : Answer → ℕ
 number (Taken v) = 0
 number (Refused r) = refusalNumber r
 
 abbrev pub value : Answer → ℤ
 value (Taken v) = v
-value (Refused r) = pos 0
+value (Refused r) = pos (refusalRow r)
 
 -- open, book and poll have value 0
 abbrev pub done : Answer

@@ -1,11 +1,11 @@
 // What a call answers, what a test tells and what a lookup finds.
 ghost use mathlib.Core.Path.{_≡_};
-ghost use Rattle.terms.specs.Answers.{number, refusalNumber, value};
+ghost use Rattle.terms.specs.Answers.{number, refusalNumber, refusalRow, value};
 
-// Why a call was refused, in the order of the numbers 1 to 13.
+// Why a call was refused, in the order of the numbers 1 to 15. Damage is named by the lowest row that breaks a rule.
 pub enum Refusal {
     WrongLength,
-    NotSound,
+    DamagedHeader,
     BadSetting,
     NameTaken,
     BadSlot,
@@ -17,6 +17,8 @@ pub enum Refusal {
     NotWaiting,
     WrongVotes,
     BadVote,
+    DamagedRecord(u16),
+    DamagedSlot(u16),
 }
 
 // Every call answers so. Open, book and poll are taken with value 0.
@@ -52,7 +54,7 @@ impl Refusal {
     {
         match self {
             Refusal::WrongLength => 1,
-            Refusal::NotSound => 2,
+            Refusal::DamagedHeader => 2,
             Refusal::BadSetting => 3,
             Refusal::NameTaken => 4,
             Refusal::BadSlot => 5,
@@ -64,6 +66,31 @@ impl Refusal {
             Refusal::NotWaiting => 11,
             Refusal::WrongVotes => 12,
             Refusal::BadVote => 13,
+            Refusal::DamagedRecord(_) => 14,
+            Refusal::DamagedSlot(_) => 15,
+        }
+    }
+
+    // The lowest row that breaks a rule, where a record or a slot is damaged; 0 for every other refusal.
+    pub fn row(self) -> u16
+        ensures { λ r. ⌜ r ≡ refusalRow self ⌝ }
+    {
+        match self {
+            Refusal::WrongLength => 0,
+            Refusal::DamagedHeader => 0,
+            Refusal::BadSetting => 0,
+            Refusal::NameTaken => 0,
+            Refusal::BadSlot => 0,
+            Refusal::BadParents => 0,
+            Refusal::UnknownParent => 0,
+            Refusal::ParentTwice => 0,
+            Refusal::Full => 0,
+            Refusal::UnknownName => 0,
+            Refusal::NotWaiting => 0,
+            Refusal::WrongVotes => 0,
+            Refusal::BadVote => 0,
+            Refusal::DamagedRecord(row) => row,
+            Refusal::DamagedSlot(row) => row,
         }
     }
 }
@@ -79,13 +106,13 @@ impl Answer {
         }
     }
 
-    // A refusal has value 0.
+    // The value of a taken call, else the refusal's row.
     pub fn value(self) -> i64
         ensures { λ r. ⌜ r ≡ value self ⌝ }
     {
         match self {
             Answer::Taken(taken) => taken,
-            Answer::Refused(_) => 0,
+            Answer::Refused(refusal) => refusal.row() as i64,
         }
     }
 }

@@ -1,6 +1,5 @@
 -- Document 01, "The text program": the example. Its nine calls and the listing, computed from the definitions on whole workspaces.
-use mathlib.Core.Path.{_≡_, sym, ap, fun-ext, _∙_}
-use mathlib.Core.Bool.{Bool}
+use mathlib.Core.Path.{_≡_, sym, ap, _∙_}
 use mathlib.Core.List.{List, [], _∷_, _++_}
 use Prim.Native.Nat.{ℕ}
 use lib.ListN.{replicate}
@@ -12,6 +11,7 @@ use Rattle.loops.specs.Rows.{walkFrom}
 use Rattle.terms.specs.declared.setting.Setting.{Setting}
 use Rattle.terms.specs.Setting.{settingOf}
 use Rattle.terms.specs.declared.answer.Answer.{Answer}
+use Rattle.terms.specs.declared.answer.Tested.{Tested}
 use Rattle.terms.specs.declared.answer.Reading.{Reading}
 use Rattle.terms.specs.Answers.{Outcome, done}
 use Rattle.terms.specs.Votes.{voteOf}
@@ -22,10 +22,10 @@ use Rattle.rules.specs.Open.{opened, openWord}
 use Rattle.rules.specs.Book.{lookUp, hasUnknown, hasTwice, entered, booked}
 use Rattle.rules.specs.Poll.{polled, raiseOne, prefer, follow, settleOne}
 use Rattle.rules.specs.Readings.{acceptOne, acceptedOf}
-use Rattle.rules.specs.Calls.{testBy, testOf, tested, openCall, bookBy, pollBy, readBy, bookCall, pollCall, readCall}
+use Rattle.rules.specs.Calls.{tested, openCall, bookBy, pollBy, readBy, bookCall, pollCall, readCall}
 use Rattle.rules.specs.Listing.{listCall}
 use Rattle.rules.proofs.Same.{Passes, passes, sameNumbers, same-numbers}
-use Rattle.rules.proofs.Walk.{isSoundWalked, walked-is}
+use Rattle.rules.proofs.Walk.{badRecordWalked, badSlotWalked, testWalked, test-walked-is}
 use Rattle.text_bytes.specs.Bytes.{bytes}
 use Rattle.text_put.specs.Decimal.{digitsOf, decimal}
 use Rattle.text_print.specs.Print.{callPrints}
@@ -84,25 +84,25 @@ runSays =
 
 -- ---- computed with the test that walks
 
-abbrev pub made : (List ℕ → Bool) → ExampleCalls
-made sound =
+abbrev pub made : (List ℕ → Tested) → ExampleCalls
+made test =
     record {
-      book = bookBy (testBy sound);
-      poll = pollBy (testBy sound);
-      list = λ w. tested (testBy sound) w done;
-      ask = readBy (testBy sound);
+      book = bookBy test;
+      poll = pollBy test;
+      list = λ w. tested test w done;
+      ask = readBy test;
     }
 
 abbrev unopened : List ℕ
 unopened = replicate size 0
 
-run-walked : Passes (sameNumbers (runPrints (made isSoundWalked) unopened) runSays)
-unfolding runPrints sameNumbers listRow rowsPrint listPrints rowPrints digitsOf decimal isSoundWalked headerGood genesisGood bookingGood parentsGood stateGood chits bookingsOf opened openWord lookUp hasUnknown hasTwice entered booked polled raiseOne prefer follow settleOne acceptOne acceptedOf ancestry sweep spread voteOf openCall upTo firstFrom total greatest from walkFrom
+run-walked : Passes (sameNumbers (runPrints (made testWalked) unopened) runSays)
+unfolding runPrints sameNumbers listRow rowsPrint listPrints rowPrints digitsOf decimal testWalked badRecordWalked badSlotWalked headerGood genesisGood bookingGood parentsGood stateGood chits bookingsOf opened openWord lookUp hasUnknown hasTwice entered booked polled raiseOne prefer follow settleOne acceptOne acceptedOf ancestry sweep spread voteOf openCall upTo firstFrom total greatest from walkFrom
 run-walked = tt
 
-pub calls-walked : theCalls ≡ made isSoundWalked
-unfolding bookCall pollCall listCall testOf
-calls-walked = ap made (fun-ext (λ w. sym (walked-is w)))
+pub calls-walked : theCalls ≡ made testWalked
+unfolding bookCall pollCall listCall
+calls-walked = ap made (sym test-walked-is)
 
 pub run-prints : runPrints theCalls unopened ≡ runSays
-run-prints = ap (λ c. runPrints c unopened) calls-walked ∙ same-numbers (runPrints (made isSoundWalked) unopened) runSays (passes _ run-walked)
+run-prints = ap (λ c. runPrints c unopened) calls-walked ∙ same-numbers (runPrints (made testWalked) unopened) runSays (passes _ run-walked)

@@ -3,5 +3,6 @@ pub mod Lines
 pub mod Pieces
 pub mod Program
 pub mod Written
+pub mod Keeping
 pub mod Example
 pub mod Readings

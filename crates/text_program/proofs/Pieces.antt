@@ -8,13 +8,12 @@ use lib.ListN.{length, take, drop, drop-of-length-le}
 use lib.Seq.{sets-eq, take-at, length-take-le}
 use borrow.Author.Tests.{le-leb, lt-leb}
 use Rattle.rules.specs.Layout.{size}
-use Rattle.rules.specs.IsSound.{isSound}
 use Rattle.text_put.specs.Put.{Put}
 use Rattle.text_put.proofs.Puts.{put-none, put-then}
 use Rattle.text_listing.specs.Listed.{lineMost}
 use Rattle.text_listing.proofs.Rows.{put-length}
 use Rattle.line_serve.specs.declared.Served.{Served}
-use Rattle.line_serve.specs.Serve.{served, Serves as LineServes}
+use Rattle.line_serve.specs.Serve.{served, Keeps, Serves as LineServes}
 use Rattle.text_program.specs.Program.{lines, printed}
 use Rattle.text_program.specs.Piece.{lineEnd, wordsAfter, Gathered, more, gathered, pieceOf, Serves}
 use Rattle.text_program.proofs.Lines.{end-le, lines-at}
@@ -52,11 +51,11 @@ pub record Gathering (w₀ input : List ℕ) (start : ℕ) (out₀ w out : List 
   pub rest : printed w₀ (lines (drop start input)) ≡ done ++ printed w (lines (drop next input))
   pub after : wordsAfter w₀ (lines (drop start input)) ≡ wordsAfter w (lines (drop next input))
   pub whole : length w ≡ size
-  pub told : known ≡ isSound w
+  pub told : Keeps known w
   pub from : start ≤ next
   pub moved : 0 < count → start < next
 
-pub gathering-none : (w input : List ℕ) (start : ℕ) (out : List ℕ) (known : Bool) → length w ≡ size → known ≡ isSound w
+pub gathering-none : (w input : List ℕ) (start : ℕ) (out : List ℕ) (known : Bool) → length w ≡ size → Keeps known w
     → Gathering w input start out w out known 0 start
 gathering-none w input start out known h e =
     record {

@@ -19,7 +19,7 @@ use Rattle.rules.specs.Poll.{polled, raiseOne, prefer, follow, settleOne}
 use Rattle.rules.specs.Readings.{queryOf, acceptOne, acceptedOf, rivalsMost, leadOf, sizeOf}
 use Rattle.rules.specs.Calls.{openCall}
 use Rattle.rules.proofs.Same.{Passes, passes, sameNumbers, same-numbers}
-use Rattle.rules.proofs.Walk.{isSoundWalked}
+use Rattle.rules.proofs.Walk.{badRecordWalked, badSlotWalked, testWalked}
 use Rattle.text_bytes.specs.Bytes.{bytes}
 use Rattle.text_put.specs.Decimal.{digitsOf, decimal, signed}
 use Rattle.text_print.specs.Print.{badLine, readingPrints, callPrints}
@@ -94,8 +94,8 @@ readings-calls : (w : List ℕ) → printed w readingsLines ≡ readingsPrint th
 unfolding printed served lineSays openSays readSays bookSays pollSays leading manyOf words isSame valueOf isNumber numberRead voteRead firstFrom upTo readingsPrint
 readings-calls w = refl
 
-readings-walked : Passes (sameNumbers (readingsPrint (made isSoundWalked) zeros) readingsSay)
-unfolding readingsPrint sameNumbers digitsOf decimal signed isSoundWalked headerGood genesisGood bookingGood parentsGood stateGood chits bookingsOf opened openWord lookUp hasUnknown hasTwice entered booked polled raiseOne prefer follow settleOne queryOf acceptOne acceptedOf rivalsMost leadOf sizeOf ancestry sweep spread voteOf openCall upTo firstFrom total greatest from walkFrom
+readings-walked : Passes (sameNumbers (readingsPrint (made testWalked) zeros) readingsSay)
+unfolding readingsPrint sameNumbers digitsOf decimal signed testWalked badRecordWalked badSlotWalked headerGood genesisGood bookingGood parentsGood stateGood chits bookingsOf opened openWord lookUp hasUnknown hasTwice entered booked polled raiseOne prefer follow settleOne queryOf acceptOne acceptedOf rivalsMost leadOf sizeOf ancestry sweep spread voteOf openCall upTo firstFrom total greatest from walkFrom
 readings-walked = tt
 
 pub readings-print : program readingsInput ≡ readingsSay
@@ -104,4 +104,4 @@ readings-print =
     ∙ ap (printed zeros) readings-lines
     ∙ readings-calls zeros
     ∙ ap (λ c. readingsPrint c zeros) calls-walked
-    ∙ same-numbers (readingsPrint (made isSoundWalked) zeros) readingsSay (passes _ readings-walked)
+    ∙ same-numbers (readingsPrint (made testWalked) zeros) readingsSay (passes _ readings-walked)

@@ -6,11 +6,10 @@ use mathlib.Core.List.{List, [], _∷_, _++_}
 use lib.ListN.{length, take, drop}
 use lib.Dec.{eqb, leb}
 use Rattle.rules.specs.Layout.{size}
-use Rattle.rules.specs.IsSound.{isSound}
 use Rattle.text_bytes.specs.Bytes.{lineFeed}
 use Rattle.text_put.specs.Put.{Put}
 use Rattle.text_listing.specs.Listed.{lineMost}
-use Rattle.line_serve.specs.Serve.{served}
+use Rattle.line_serve.specs.Serve.{served, Keeps}
 use Rattle.text_program.specs.Program.{lines, printed}
 use Rattle.text_program.specs.declared.Piece.{Piece}
 
@@ -52,19 +51,19 @@ pieceOf room w input start = gathered room (record { words = w; prints = []; nex
 
 -- ---- the contract of the function that serves a piece
 
--- whether the workspace is sound is known, and there is room for a line
+-- whether the workspace is a ledger or all zero is known, and there is room for a line
 pub record Ready (w : List ℕ) (known : Bool) (out : List ℕ) : Type 0 where
   pub whole : length w ≡ size
-  pub told : known ≡ isSound w
+  pub told : Keeps known w
   pub room : lineMost ≤ length out
 
--- The words, the bytes and the place are those of the piece, and whether the words are sound is known again. So what is left to print is
+-- The words, the bytes and the place are those of the piece, and what the words are is known again. So what is left to print is
 -- what stands in the buffer and then what is left to print from there on, and likewise for the words; and while there is input some is used.
 pub record Serves (w input : List ℕ) (start : ℕ) (out : List ℕ) (r : Piece) (w′ out′ : List ℕ) : Type 0 where
   pub left : w′ ≡ pieceOf (length out) w input start .words
   pub put : Put out 0 (pieceOf (length out) w input start .prints) (r .count) out′
   pub next : r .next ≡ pieceOf (length out) w input start .next
-  pub told : r .known ≡ isSound w′
+  pub told : Keeps (r .known) w′
   pub rest : printed w (lines (drop start input)) ≡ take (r .count) out′ ++ printed w′ (lines (drop (r .next) input))
   pub after : wordsAfter w (lines (drop start input)) ≡ wordsAfter w′ (lines (drop (r .next) input))
   pub within : r .count ≤ length out′

@@ -8,7 +8,7 @@ ghost use Rattle.text_program.specs.Piece.{lineEnd, Ready, Serves};
 // The longest input that is taken.
 pub const INPUT_MOST: usize = 65536;
 
-// How many bytes were put into the buffer, where the next line starts, and whether the workspace is sound now.
+// How many bytes were put into the buffer, where the next line starts, and whether the workspace is a ledger now.
 pub struct Piece {
     pub count: usize,
     pub next: usize,

@@ -3,21 +3,23 @@
 //! A run starts from a ledger (reached by a history, or sound without one)
 //! and makes calls on it. Some calls are made on a copy that is damaged or
 //! has another length. After each call the numbers, the values, all words and
-//! the guard words are compared; on reached ledgers the laws are checked.
+//! the guard words are compared; on reached ledgers the laws are checked, and
+//! the row named for damage is held to where it was done.
 
 use crate::call::{Call, Face};
 use crate::choose::choose;
-use crate::damage::{change_any_word, damage};
+use crate::damage::Damaged;
 use crate::grow::{any_size, grow, words_of, Style};
 use crate::guard::Guarded;
 use crate::prng::Prng;
 use crate::report::words_text;
 use crate::scramble::scramble;
-use crate::tally::{Tally, LAWS, REACHED, UNREACHED};
+use crate::tally::{Tally, LAWS, REACHED, TOLD, UNREACHED};
+use second::codec::decode;
 use second::laws::{check_accepted_once, History, Picture};
 use second::layout::WORDS;
 use second::ledger::{Ledger, Reading};
-use second::sound::{decode, Broken};
+use second::sound::Damage;
 use second::words::Answer;
 use std::fmt::{self, Display, Formatter};
 
@@ -114,7 +116,7 @@ impl<'a> Contest<'a> {
 
     fn run(&mut self, prng: &mut Prng, tally: &mut Tally, calls: usize) -> Result<(), String> {
         for _ in 0..calls {
-            let ledger = decode(&self.ws).map_err(|broken| format!("unsound by {broken:?}"))?;
+            let ledger = decode(&self.ws).map_err(|damage| format!("unsound: {:?}", damage.0))?;
             let call = choose(prng, &ledger, &self.style);
             match prng.below(100) {
                 0..=3 => {
@@ -122,11 +124,7 @@ impl<'a> Contest<'a> {
                     let verdict = decode_any(&resized);
                     self.both("other length", &resized, verdict, &call, tally)?;
                 }
-                4..=23 => {
-                    let damaged = damaged(prng, &self.ws);
-                    let verdict = decode(&damaged);
-                    self.both("damaged", &damaged, verdict, &call, tally)?;
-                }
+                4..=38 => self.damaged(prng, &call, tally)?,
                 _ => self.step(ledger, &call, tally)?,
             }
         }
@@ -161,13 +159,38 @@ impl<'a> Contest<'a> {
         Ok(())
     }
 
+    /// A call on a damaged copy. Where the damage itself tells the place that
+    /// has to be named, that is a third opinion beside those of both faces.
+    fn damaged(&mut self, prng: &mut Prng, call: &Call, tally: &mut Tally) -> Result<(), String> {
+        let Damaged {
+            words,
+            kinds,
+            place,
+        } = Damaged::any(prng, &self.ws);
+        let verdict = decode(&words);
+        let (answer, _) = self.both("damaged", &words, verdict, call, tally)?;
+        let (Some(place), false) = (place, matches!(call, Call::Open(_))) else {
+            return Ok(());
+        };
+        let refusal = place.refusal();
+        if answer != (refusal.number(), refusal.value()) {
+            let words = words_text(&words);
+            return Err(format!(
+                "{kinds:?} damaged {place:?}, answered {answer:?}\n{call:?} on {words}"
+            ));
+        }
+        tally.add_damage(&kinds);
+        tally.add(TOLD);
+        Ok(())
+    }
+
     /// Both faces make the call on these words; what they say and leave must
     /// be the same.
     fn both(
         &mut self,
         note: &'static str,
         before: &[u16],
-        verdict: Result<Ledger, Broken>,
+        verdict: Result<Ledger, Damage>,
         call: &Call,
         tally: &mut Tally,
     ) -> Result<(Answer, Vec<u16>), String> {
@@ -266,36 +289,43 @@ fn any_length(prng: &mut Prng, ws: &[u16]) -> Vec<u16> {
     resized
 }
 
-/// The verdict on words of any length, for the tally only.
-fn decode_any(ws: &[u16]) -> Result<Ledger, Broken> {
+/// The verdict on words of any length, for the tally only: nothing is judged
+/// in words of another length.
+fn decode_any(ws: &[u16]) -> Result<Ledger, Damage> {
     if ws.len() == WORDS {
         decode(ws)
     } else {
-        Err(Broken::BookingsOutside)
+        Err(Damage::default())
     }
 }
 
-/// A damaged copy: one sentence broken, or several, or any words changed.
-fn damaged(prng: &mut Prng, ws: &[u16]) -> Vec<u16> {
-    let mut damaged = ws.to_vec();
-    match prng.below(10) {
-        0..=6 => loop {
-            let broken = prng.pick(&Broken::ALL);
-            if damage(prng, &mut damaged, broken) {
-                break;
-            }
-        },
-        7 => {
-            for _ in 0..prng.between(2, 4) {
-                change_any_word(prng, &mut damaged);
-            }
+#[cfg(test)]
+mod tests {
+    use super::*;
+    use crate::planted::{Plant, Planted};
+
+    /// Two programs with the same error agree, and where the damage was done
+    /// tells it all the same.
+    #[test]
+    fn a_wrong_row_that_both_name_is_found() {
+        for plant in [
+            Plant::RecordsAndSlotsSwapped,
+            Plant::DamageWithoutRow,
+            Plant::HighestRowNamed,
+            Plant::RecordsBeforeHeader,
+            Plant::SlotsBeforeRecords,
+            Plant::NameChargedToLowest,
+            Plant::MissingOrdinalAtLastRecord,
+            Plant::ConfidenceBoundAmongSlots,
+            Plant::CounterBoundAmongRecords,
+        ] {
+            let both = Planted(Some(plant));
+            let (_, difference) = compare(&both, &both, 10_000, 1);
+            let text = difference.expect("it is found").text;
+            let found = text.lines().nth(1).unwrap_or_default();
+            assert!(found.contains(", answered ("), "{plant:?}: {found}");
         }
-        8 => change_any_word(prng, &mut damaged),
-        _ => {
-            let first = prng.pick(&Broken::ALL);
-            damage(prng, &mut damaged, first);
-            change_any_word(prng, &mut damaged);
-        }
+        let (_, difference) = compare(&Planted(None), &Planted(None), 2000, 1);
+        assert!(difference.is_none());
     }
-    damaged
 }

@@ -189,12 +189,12 @@ fn flaw_seen(flaw: Flaw) -> String {
     format!("flaw: {flaw:?}")
 }
 
-/// What inputs should have shown and did not. Refusal 1 cannot be had from
-/// text.
+/// What inputs should have shown and did not. Refusals 1, 14 and 15 cannot be
+/// had from text: its words have the right length, and are all zero or sound.
 pub fn missing(tally: &Tally) -> Vec<String> {
     let kinds = Kind::ALL.into_iter().map(kind_seen);
     let flaws = Flaw::ALL.into_iter().map(flaw_seen);
-    let refusals = (2..=Refusal::HIGHEST).map(|number| format!("refused {number}"));
+    let refusals = (2..=Refusal::VoteByte.number()).map(|number| format!("refused {number}"));
     let calls = crate::call::Call::KINDS.map(|kind| format!("{kind} taken"));
     let others = [
         "list taken",

@@ -1,30 +1,231 @@
-//! Words that break a named sentence of soundness.
+//! Words that break sentences of soundness, and the place that a refusal
+//! has to name for it.
 //!
-//! Where it can be done, the damage breaks that sentence and no other, so
-//! that a test of soundness that forgets the sentence is found out.
+//! Damage is done to sound words and tells its place by what it did: nothing
+//! here asks the second program what is broken. Where it can be done, damage
+//! meant for a sentence breaks no other, so that a test of soundness that
+//! forgets the sentence is found out.
 
 use crate::prng::Prng;
 use second::layout::*;
-use second::sound::Broken;
+use second::sound::{Broken, Place};
+
+/// A way to damage sound words.
+#[derive(Clone, Copy, Debug, PartialEq, Eq)]
+pub enum Kind {
+    /// The sentence is broken.
+    Breaks(Broken),
+    /// Three records hold one name.
+    NameThrice,
+    /// A record takes the name of a higher one, which is charged with it.
+    NameOfHigher,
+    /// Three records hold one ordinal.
+    OrdinalThrice,
+    /// Two records hold one ordinal above p: both break the rule.
+    OrdinalAboveTwice,
+    /// A chit's state is lost. What counted it is above the bound then, and
+    /// that is the genesis wherever a history led.
+    ChitLost,
+    /// n is one more, and the record there all zero.
+    BookingMore,
+    /// n is one less, and the record there is not.
+    BookingFewer,
+    /// An entry calls itself empty although its slot has bookings.
+    SlotEmptied,
+    /// A record is in another slot than the entries say.
+    BookingMoved,
+}
+
+impl Kind {
+    /// Those that break a rule of the header, a record, a slot entry.
+    pub const HEADER: [Kind; 4] = [
+        Kind::Breaks(Broken::BookingsOutside),
+        Kind::Breaks(Broken::SettingBad),
+        Kind::Breaks(Broken::PollsAboveBookings),
+        Kind::Breaks(Broken::HeaderRestNotZero),
+    ];
+    pub const RECORDS: [Kind; 26] = [
+        Kind::Breaks(Broken::GenesisName),
+        Kind::Breaks(Broken::GenesisSlot),
+        Kind::Breaks(Broken::GenesisParents),
+        Kind::Breaks(Broken::GenesisState),
+        Kind::Breaks(Broken::GenesisOrdinal),
+        Kind::Breaks(Broken::NameTwice),
+        Kind::Breaks(Broken::SlotOutside),
+        Kind::Breaks(Broken::NoParent),
+        Kind::Breaks(Broken::GapInParents),
+        Kind::Breaks(Broken::ParentTwice),
+        Kind::Breaks(Broken::ParentNotLower),
+        Kind::Breaks(Broken::StateOutside),
+        Kind::Breaks(Broken::WaitingWithOrdinal),
+        Kind::Breaks(Broken::PolledWithoutOrdinal),
+        Kind::Breaks(Broken::OrdinalAbovePolls),
+        Kind::Breaks(Broken::OrdinalTwice),
+        Kind::Breaks(Broken::OrdinalMissing),
+        Kind::Breaks(Broken::UnusedRecordNotZero),
+        Kind::Breaks(Broken::ConfidenceAboveChits),
+        Kind::NameThrice,
+        Kind::NameOfHigher,
+        Kind::OrdinalThrice,
+        Kind::OrdinalAboveTwice,
+        Kind::ChitLost,
+        Kind::BookingMore,
+        Kind::BookingFewer,
+    ];
+    pub const SLOTS: [Kind; 7] = [
+        Kind::Breaks(Broken::EmptySlotFilled),
+        Kind::Breaks(Broken::CountNotTrue),
+        Kind::Breaks(Broken::PreferredElsewhere),
+        Kind::Breaks(Broken::LastElsewhere),
+        Kind::Breaks(Broken::CounterAboveChits),
+        Kind::SlotEmptied,
+        Kind::BookingMoved,
+    ];
+
+    pub fn all() -> impl Iterator<Item = Kind> {
+        (Kind::HEADER.into_iter())
+            .chain(Kind::RECORDS)
+            .chain(Kind::SLOTS)
+    }
+
+    /// Does this damage stay what it is whatever steady damage is done
+    /// beside it? Then the lowest of their places is named. What writes
+    /// states or ordinals, or moves names and bookings about, may mend other
+    /// damage or break more.
+    fn is_steady(self) -> bool {
+        match self {
+            Kind::Breaks(broken) => !matches!(
+                broken,
+                Broken::GenesisOrdinal
+                    | Broken::StateOutside
+                    | Broken::WaitingWithOrdinal
+                    | Broken::PolledWithoutOrdinal
+                    | Broken::OrdinalAbovePolls
+                    | Broken::OrdinalTwice
+                    | Broken::OrdinalMissing
+            ),
+            Kind::NameThrice | Kind::SlotEmptied => true,
+            _ => false,
+        }
+    }
+
+    fn any(prng: &mut Prng) -> Kind {
+        let all: Vec<Kind> = Kind::all().collect();
+        prng.pick(&all)
+    }
+
+    /// Header, records and slots each have their share.
+    fn any_by_part(prng: &mut Prng) -> Kind {
+        let part = prng.weigh(&[
+            (1, &Kind::HEADER[..]),
+            (3, &Kind::RECORDS[..]),
+            (2, &Kind::SLOTS[..]),
+        ]);
+        prng.pick(part)
+    }
+}
+
+/// A damaged copy of sound words.
+pub struct Damaged {
+    pub words: Vec<u16>,
+    /// What was done; words changed at random are not among it.
+    pub kinds: Vec<Kind>,
+    /// What the refusal has to name, where that is known.
+    pub place: Option<Place>,
+}
+
+impl Damaged {
+    /// Mostly one kind, often two or three at once, at times words changed at
+    /// random instead or beside. What is changed at random may stay sound.
+    pub fn any(prng: &mut Prng, sound: &[u16]) -> Damaged {
+        let (kinds, changes) = prng.weigh(&[
+            (12, (1, 0)),
+            (3, (2, 0)),
+            (2, (3, 0)),
+            (1, (1, 1)),
+            (1, (0, 1)),
+            (1, (0, 3)),
+        ]);
+        let mut damaged = if kinds == 1 {
+            Damaged::by_one(prng, sound)
+        } else {
+            let kinds: Vec<Kind> = (0..kinds).map(|_| Kind::any_by_part(prng)).collect();
+            Damaged::by(prng, sound, &kinds)
+        };
+        for _ in 0..changes {
+            damaged.place = None;
+            change_any_word(prng, &mut damaged.words);
+        }
+        damaged
+    }
+
+    /// By one kind that these words have a place for.
+    fn by_one(prng: &mut Prng, sound: &[u16]) -> Damaged {
+        loop {
+            // Only a full ledger has the number 512 to be named.
+            let kind = if sound[N] == BOOKINGS as u16 && prng.chance(30) {
+                Kind::Breaks(Broken::OrdinalMissing)
+            } else {
+                Kind::any(prng)
+            };
+            let damaged = Damaged::by(prng, sound, &[kind]);
+            if !damaged.kinds.is_empty() {
+                return damaged;
+            }
+        }
+    }
+
+    /// By each of these kinds that the words have a place for. Each is done to
+    /// the sound words; where two write the same word, the later one stays,
+    /// and a name is written whole.
+    pub fn by(prng: &mut Prng, sound: &[u16], kinds: &[Kind]) -> Damaged {
+        let mut words = sound.to_vec();
+        let (mut done, mut places) = (Vec::new(), Vec::new());
+        for &kind in kinds {
+            let mut alone = sound.to_vec();
+            let Some(place) = damage(prng, &mut alone, kind) else {
+                continue;
+            };
+            for at in (0..WORDS).filter(|&at| alone[at] != sound[at]) {
+                words[at] = alone[at];
+            }
+            for b in 0..BOOKINGS {
+                let name = record(b) + NAME..record(b) + SLOT;
+                if alone[name.clone()] != sound[name.clone()] {
+                    words[name.clone()].copy_from_slice(&alone[name]);
+                }
+            }
+            done.push(kind);
+            places.push(place);
+        }
+        let is_known = done.len() == 1 || done.iter().all(|kind| kind.is_steady());
+        Damaged {
+            words,
+            kinds: done,
+            place: places.into_iter().min().filter(|_| is_known),
+        }
+    }
+}
 
 /// Sound words about to be damaged.
 struct Target<'a> {
     prng: &'a mut Prng,
     ws: &'a mut [u16],
     n: usize,
+    p: u16,
 }
 
-/// Breaks the sentence in sound words. Some ledgers have no place for some
-/// damage (one without bookings has no second name): then nothing is done
-/// and the answer is false.
-pub fn damage(prng: &mut Prng, ws: &mut [u16], broken: Broken) -> bool {
-    let n = usize::from(ws[N]);
-    Target { prng, ws, n }.apply(broken).is_some()
+/// Damages sound words, and tells the place that has to be named. Some
+/// ledgers have no place for some damage (one without bookings has no second
+/// name): then nothing is done.
+pub fn damage(prng: &mut Prng, ws: &mut [u16], kind: Kind) -> Option<Place> {
+    let (n, p) = (usize::from(ws[N]), ws[P]);
+    Target { prng, ws, n, p }.apply(kind)
 }
 
 /// Changes one word anywhere, to something near or something far. The words
 /// may stay sound.
-pub fn change_any_word(prng: &mut Prng, ws: &mut [u16]) {
+fn change_any_word(prng: &mut Prng, ws: &mut [u16]) {
     let n = usize::from(ws[N]).min(BOOKINGS);
     let at = match prng.below(8) {
         0 => prng.below(HEADER_WORDS),
@@ -48,17 +249,79 @@ pub fn change_any_word(prng: &mut Prng, ws: &mut [u16]) {
 }
 
 impl Target<'_> {
-    fn apply(&mut self, broken: Broken) -> Option<()> {
+    fn apply(&mut self, kind: Kind) -> Option<Place> {
+        match kind {
+            Kind::Breaks(broken) => self.breaks(broken),
+            Kind::NameThrice => {
+                let [first, second, third] = self.records(0)?;
+                self.copy_name(first, second);
+                self.copy_name(first, third);
+                Some(Place::Record(second))
+            }
+            Kind::NameOfHigher => {
+                let [low, high] = self.records(1)?;
+                self.copy_name(high, low);
+                Some(Place::Record(high))
+            }
+            Kind::OrdinalThrice => {
+                let holder = self.any_of(|target, b| target.ordinal(b) != 0)?;
+                let [one, other] = self.records(1)?;
+                if one == holder || other == holder {
+                    return None;
+                }
+                let ordinal = self.ordinal(holder);
+                self.poll(one, ordinal);
+                self.poll(other, ordinal);
+                let mut holders = [holder, one, other];
+                holders.sort();
+                Some(Place::Record(holders[1]))
+            }
+            Kind::OrdinalAboveTwice => {
+                let [low, high] = self.records(1)?;
+                let above = self.prng.pick(&[self.p + 1, 65535]);
+                self.poll(low, above);
+                self.poll(high, above);
+                Some(Place::Record(low))
+            }
+            Kind::ChitLost => self.chit_lost(),
+            Kind::BookingMore => {
+                (self.n < BOOKINGS).then_some(())?;
+                self.ws[N] += 1;
+                Some(Place::Record(self.n))
+            }
+            Kind::BookingFewer => {
+                let last = self.n - 1;
+                (last > 0 && self.state(last) == 0).then_some(())?;
+                self.ws[N] -= 1;
+                Some(Place::Record(last))
+            }
+            Kind::SlotEmptied => {
+                let s = self.used_slot();
+                self.clear_entry(s);
+                Some(Place::Slot(s))
+            }
+            Kind::BookingMoved => {
+                let b = self.booking()?;
+                let from = self.slot(b);
+                let to = self.prng.between(1, SLOTS - 1);
+                (to != from).then_some(())?;
+                self.ws[record(b) + SLOT] = to as u16;
+                Some(Place::Slot(from.min(to)))
+            }
+        }
+    }
+
+    fn breaks(&mut self, broken: Broken) -> Option<Place> {
         match broken {
-            Broken::BookingsOutside => self.put(N, &[0, 513, 1024, 65535]),
+            Broken::BookingsOutside => self.header(N, &[0, 513, 1024, 65535]),
             Broken::SettingBad => self.setting(),
             Broken::PollsAboveBookings => {
                 let n = self.n as u16;
-                self.put(P, &[n, n + 1, 65535])
+                self.header(P, &[n, n + 1, 65535])
             }
             Broken::HeaderRestNotZero => {
                 let at = self.prng.between(REST, HEADER_WORDS - 1);
-                self.put(at, &[1, 256, 65535])
+                self.header(at, &[1, 256, 65535])
             }
             Broken::GenesisName => {
                 let part = self.prng.below(4);
@@ -70,33 +333,29 @@ impl Target<'_> {
                 self.field(0, PARENT + place, &[0, 1, 65534])
             }
             Broken::GenesisState => self.field(0, STATE, &[0, 2, 3, 257]),
-            Broken::GenesisOrdinal => {
-                let next = self.ws[P] + 1;
-                self.field(0, ORDINAL, &[1, next, 65535])
+            Broken::GenesisOrdinal => self.genesis_ordinal(),
+            Broken::NameTwice => {
+                let [low, high] = self.records(0)?;
+                self.copy_name(low, high);
+                Some(Place::Record(high))
             }
-            Broken::NameTwice => self.name_twice(),
             Broken::SlotOutside => self.slot_outside(),
             Broken::NoParent
             | Broken::GapInParents
             | Broken::ParentTwice
             | Broken::ParentNotLower => self.parents(broken),
-            Broken::StateOutside => {
-                let b = self.booking()?;
-                self.field(b, STATE, &[3, 4, 256, 258, 65535])
-            }
+            Broken::StateOutside => self.state_outside(),
             Broken::WaitingWithOrdinal
             | Broken::PolledWithoutOrdinal
             | Broken::OrdinalAbovePolls
             | Broken::OrdinalTwice
             | Broken::OrdinalMissing => self.ordinals(broken),
             Broken::UnusedRecordNotZero => {
-                let b = match self.prng.below(3) {
-                    0 => self.n,
-                    1 => BOOKINGS - 1,
-                    _ => self.prng.between(self.n, BOOKINGS),
-                };
+                (self.n < BOOKINGS).then_some(())?;
+                let last = BOOKINGS - 1;
+                let any = self.prng.between(self.n, last);
+                let b = self.prng.pick(&[self.n, any, last]);
                 let word = self.prng.below(RECORD_WORDS);
-                (self.n <= b && b < BOOKINGS).then_some(())?;
                 self.field(b, word, &[1, 2, 65535])
             }
             Broken::EmptySlotFilled => self.empty_slot(),
@@ -120,20 +379,82 @@ impl Target<'_> {
         }
     }
 
-    fn put(&mut self, at: usize, values: &[u16]) -> Option<()> {
+    fn header(&mut self, at: usize, values: &[u16]) -> Option<Place> {
         self.ws[at] = self.prng.pick(values);
-        Some(())
+        Some(Place::Header)
     }
 
-    fn field(&mut self, b: usize, word: usize, values: &[u16]) -> Option<()> {
-        self.put(record(b) + word, values)
+    fn field(&mut self, b: usize, word: usize, values: &[u16]) -> Option<Place> {
+        self.ws[record(b) + word] = self.prng.pick(values);
+        Some(Place::Record(b))
     }
 
-    fn entry(&mut self, s: usize, word: usize, values: &[u16]) -> Option<()> {
-        self.put(entry(s) + word, values)
+    fn entry(&mut self, s: usize, word: usize, values: &[u16]) -> Option<Place> {
+        self.ws[entry(s) + word] = self.prng.pick(values);
+        Some(Place::Slot(s))
     }
 
-    fn setting(&mut self) -> Option<()> {
+    fn state(&self, b: usize) -> u16 {
+        self.ws[record(b) + STATE]
+    }
+
+    fn ordinal(&self, b: usize) -> u16 {
+        self.ws[record(b) + ORDINAL]
+    }
+
+    fn slot(&self, b: usize) -> usize {
+        usize::from(self.ws[record(b) + SLOT])
+    }
+
+    fn chits(&self) -> u16 {
+        (1..self.n).filter(|&b| self.state(b) == 2).count() as u16
+    }
+
+    /// A booking that is not the genesis.
+    fn booking(&mut self) -> Option<usize> {
+        self.any_of(|_, _| true)
+    }
+
+    /// One of those that are not the genesis and are meant.
+    fn any_of(&mut self, is_meant: impl Fn(&Self, usize) -> bool) -> Option<usize> {
+        let meant: Vec<usize> = (1..self.n).filter(|&b| is_meant(self, b)).collect();
+        (!meant.is_empty()).then(|| self.prng.pick(&meant))
+    }
+
+    /// Different records from this number on, in rising number.
+    fn records<const COUNT: usize>(&mut self, from: usize) -> Option<[usize; COUNT]> {
+        let mut all: Vec<usize> = (from..self.n).collect();
+        self.prng.shuffle(&mut all);
+        let mut some: [usize; COUNT] = all.get(..COUNT)?.try_into().ok()?;
+        some.sort();
+        Some(some)
+    }
+
+    fn copy_name(&mut self, from: usize, to: usize) {
+        let name = record(from) + NAME..record(from) + SLOT;
+        self.ws.copy_within(name, record(to) + NAME);
+    }
+
+    /// A booking that waits is polled, with or without a chit; one that was
+    /// polled keeps its state. Either holds the ordinal.
+    fn poll(&mut self, b: usize, ordinal: u16) {
+        if self.state(b) == 0 {
+            self.ws[record(b) + STATE] = self.prng.pick(&[1, 2]);
+        }
+        self.ws[record(b) + ORDINAL] = ordinal;
+    }
+
+    fn clear_entry(&mut self, s: usize) {
+        self.ws[entry(s)..entry(s + 1)].copy_from_slice(&EMPTY_ENTRY);
+    }
+
+    /// The slot of a booking, the genesis' too.
+    fn used_slot(&mut self) -> usize {
+        let b = self.prng.below(self.n);
+        self.slot(b)
+    }
+
+    fn setting(&mut self) -> Option<Place> {
         let (k, beta2) = (self.ws[K], self.ws[BETA2]);
         let (word, value) = self.prng.pick(&[
             (K, 0),
@@ -148,62 +469,60 @@ impl Target<'_> {
             (BETA2, 511),
             (BETA2, 65535),
         ]);
-        self.put(word, &[value])
+        self.header(word, &[value])
     }
 
-    /// The genesis in another slot, with its entry if that slot is empty.
-    fn genesis_slot(&mut self) -> Option<()> {
+    /// The genesis in another slot, mostly with its entry, or as one more
+    /// booking of that slot.
+    fn genesis_slot(&mut self) -> Option<Place> {
         let to = self.prng.between(1, SLOTS - 1);
         self.ws[record(0) + SLOT] = to as u16;
-        if self.ws[entry(to) + COUNT] == 0 {
-            self.ws.copy_within(entry(0)..entry(1), entry(to));
+        if self.prng.chance(70) {
+            if self.ws[entry(to) + COUNT] == 0 {
+                self.ws.copy_within(entry(0)..entry(1), entry(to));
+            } else {
+                self.ws[entry(to) + COUNT] += 1;
+            }
             self.clear_entry(0);
         }
-        Some(())
+        Some(Place::Record(0))
     }
 
-    fn clear_entry(&mut self, s: usize) {
-        self.ws[entry(s)..entry(s + 1)].copy_from_slice(&EMPTY_ENTRY);
-    }
-
-    /// A booking that is not the genesis.
-    fn booking(&mut self) -> Option<usize> {
-        (self.n > 1).then(|| self.prng.between(1, self.n - 1))
-    }
-
-    fn name_twice(&mut self) -> Option<()> {
-        let b = self.booking()?;
-        let other = self.prng.below(b);
-        let from = record(other) + NAME;
-        self.ws.copy_within(from..from + 4, record(b) + NAME);
-        Some(())
+    /// An ordinal that another holds, or one above p, or one that is new with
+    /// p raised for it.
+    fn genesis_ordinal(&mut self) -> Option<Place> {
+        let next = self.p + 1;
+        if usize::from(next) < self.n && self.prng.chance(50) {
+            self.ws[P] = next;
+            return self.field(0, ORDINAL, &[next]);
+        }
+        self.field(0, ORDINAL, &[1, next, 65535])
     }
 
     /// A booking in slot 0 or in none. The slot it leaves, and slot 0, say so.
-    fn slot_outside(&mut self) -> Option<()> {
+    fn slot_outside(&mut self) -> Option<Place> {
         let b = self.booking()?;
-        let from = usize::from(self.ws[record(b) + SLOT]);
-        if self.ws[entry(from) + COUNT] == 1 {
-            self.clear_entry(from);
-        } else {
-            self.ws[entry(from) + COUNT] -= 1;
-            let rival = (1..self.n)
-                .find(|&other| other != b && usize::from(self.ws[record(other) + SLOT]) == from)?;
-            for word in [PREFERRED, LAST] {
-                if usize::from(self.ws[entry(from) + word]) == b {
-                    self.ws[entry(from) + word] = rival as u16;
+        let from = self.slot(b);
+        let rival = (1..self.n).find(|&other| other != b && self.slot(other) == from);
+        match rival {
+            None => self.clear_entry(from),
+            Some(rival) => {
+                self.ws[entry(from) + COUNT] -= 1;
+                for word in [PREFERRED, LAST] {
+                    if usize::from(self.ws[entry(from) + word]) == b {
+                        self.ws[entry(from) + word] = rival as u16;
+                    }
                 }
             }
         }
         let to = self.prng.pick(&[0, 0, 256, 257, 512, 65535]);
-        self.ws[record(b) + SLOT] = to;
         if to == 0 {
             self.ws[entry(0) + COUNT] += 1;
         }
-        Some(())
+        self.field(b, SLOT, &[to])
     }
 
-    fn parents(&mut self, broken: Broken) -> Option<()> {
+    fn parents(&mut self, broken: Broken) -> Option<Place> {
         let b = self.booking()?;
         let at = record(b) + PARENT;
         let places = &mut self.ws[at..at + PARENTS];
@@ -226,110 +545,292 @@ impl Target<'_> {
                 places[place] = self.prng.pick(&not_lower) as u16;
             }
         }
-        Some(())
+        Some(Place::Record(b))
     }
 
-    /// Done to a booking that waits, so that no ordinal goes missing.
-    fn ordinals(&mut self, broken: Broken) -> Option<()> {
-        let p = self.ws[P];
-        let waiting: Vec<usize> = (1..self.n)
-            .filter(|&b| self.ws[record(b) + STATE] == 0)
-            .collect();
-        if waiting.is_empty() {
-            return None;
+    /// Not done to a chit, which would be one less. One that waits gets an
+    /// ordinal at times, since its state is 0 no more.
+    fn state_outside(&mut self) -> Option<Place> {
+        let b = self.any_of(|target, b| target.state(b) != 2)?;
+        if self.state(b) == 0 && self.prng.chance(50) {
+            self.ws[P] = self.p + 1;
+            self.ws[record(b) + ORDINAL] = self.p + 1;
         }
-        let b = self.prng.pick(&waiting);
-        let polled = self.prng.pick(&[1, 2]);
+        self.field(b, STATE, &[3, 4, 256, 258, 65535])
+    }
+
+    fn ordinals(&mut self, broken: Broken) -> Option<Place> {
+        let next = self.p + 1;
+        let waiting = self.any_of(|target, b| target.state(b) == 0);
+        let polled = self.any_of(|target, b| target.state(b) != 0);
+        let without_chit = self.any_of(|target, b| target.state(b) == 1);
+        // Whatever can be done: to a booking that waits, so that no ordinal
+        // goes missing, or to one that was polled.
+        let is_waiting = self.prng.chance(60);
         match broken {
-            Broken::WaitingWithOrdinal => {
-                self.ws[record(b) + ORDINAL] = p + 1;
-                self.ws[P] = p + 1;
+            Broken::WaitingWithOrdinal => match (waiting, without_chit) {
+                (Some(b), other) if is_waiting || other.is_none() => {
+                    self.ws[P] = next;
+                    self.field(b, ORDINAL, &[next])
+                }
+                (_, b) => self.field(b?, STATE, &[0]),
+            },
+            Broken::PolledWithoutOrdinal => match (waiting, polled) {
+                (Some(b), other) if is_waiting || other.is_none() => self.field(b, STATE, &[1, 2]),
+                (_, b) => self.field(b?, ORDINAL, &[0]),
+            },
+            Broken::OrdinalAbovePolls if self.p > 0 && self.prng.chance(30) => {
+                // The last poll is no longer counted.
+                let holder = self.any_of(|target, b| target.ordinal(b) == target.p)?;
+                self.ws[P] -= 1;
+                Some(Place::Record(holder))
             }
-            Broken::PolledWithoutOrdinal => self.ws[record(b) + STATE] = polled,
             Broken::OrdinalAbovePolls => {
-                self.ws[record(b) + STATE] = polled;
-                self.ws[record(b) + ORDINAL] = self.prng.pick(&[p + 1, 65535]);
+                let b = waiting.filter(|_| is_waiting).or(polled).or(waiting)?;
+                let above = self.prng.pick(&[next, 65535]);
+                self.poll(b, above);
+                Some(Place::Record(b))
             }
-            Broken::OrdinalTwice if p > 0 => {
-                self.ws[record(b) + STATE] = polled;
-                self.ws[record(b) + ORDINAL] = self.prng.word(1, p);
+            Broken::OrdinalTwice => {
+                let b = waiting.filter(|_| is_waiting).or(polled)?;
+                let holder = self.any_of(|target, h| h != b && target.ordinal(h) != 0)?;
+                let ordinal = self.ordinal(holder);
+                self.poll(b, ordinal);
+                Some(Place::Record(b.max(holder)))
             }
-            Broken::OrdinalTwice => return None,
-            _ => self.ws[P] = p + 1,
+            _ => {
+                if waiting.is_some() && (is_waiting || without_chit.is_none()) {
+                    self.ws[P] = next;
+                } else {
+                    let b = without_chit?;
+                    self.ws[record(b) + STATE] = 0;
+                    self.ws[record(b) + ORDINAL] = 0;
+                }
+                Some(Place::Record(self.n))
+            }
         }
-        Some(())
     }
 
-    fn empty_slot(&mut self) -> Option<()> {
+    /// What stood at the number of chits is above it now, and a state that
+    /// does not go with the ordinal breaks a rule of its own.
+    fn chit_lost(&mut self) -> Option<Place> {
+        let chits = self.chits();
+        let b = self.any_of(|target, b| target.state(b) == 2)?;
+        let state = self.prng.pick(&[1, 1, 0, 3, 258]);
+        let records = (0..self.n)
+            .filter(|&r| self.ws[record(r) + CONFIDENCE] == chits || r == b && state != 1)
+            .map(Place::Record);
+        let slots = (0..SLOTS)
+            .filter(|&s| self.ws[entry(s) + COUNTER] == chits)
+            .map(Place::Slot);
+        let place = records.chain(slots).min()?;
+        self.ws[record(b) + STATE] = state;
+        Some(place)
+    }
+
+    fn empty_slot(&mut self) -> Option<Place> {
         let empty: Vec<usize> = (1..SLOTS)
             .filter(|&s| self.ws[entry(s) + COUNT] == 0)
             .collect();
-        if empty.is_empty() {
-            return None;
-        }
-        let s = self.prng.pick(&empty);
+        let (&first, &last) = (empty.first()?, empty.last()?);
+        let any = self.prng.pick(&empty);
+        let s = self.prng.pick(&[first, any, last, last]);
         if self.prng.chance(20) {
             self.ws[entry(s)..entry(s + 1)].fill(0);
-            return Some(());
+            return Some(Place::Slot(s));
         }
         let word = self.prng.below(ENTRY_WORDS);
         self.entry(s, word, &[1, 2, 256, 65534])
     }
 
-    /// The slot of a booking, the genesis' too.
-    fn used_slot(&mut self) -> usize {
-        let b = self.prng.below(self.n);
-        usize::from(self.ws[record(b) + SLOT])
-    }
-
     /// A slot's preferred or last becomes a booking of another slot, or none.
-    fn elsewhere(&mut self, word: usize) -> Option<()> {
+    fn elsewhere(&mut self, word: usize) -> Option<Place> {
         let s = self.used_slot();
         let mut others: Vec<u16> = (0..self.n)
-            .filter(|&b| usize::from(self.ws[record(b) + SLOT]) != s)
+            .filter(|&b| self.slot(b) != s)
             .map(|b| b as u16)
             .collect();
         others.extend([self.n as u16, 512, 65535]);
         self.entry(s, word, &others)
-    }
-
-    fn chits(&self) -> u16 {
-        (1..self.n)
-            .filter(|&b| self.ws[record(b) + STATE] == 2)
-            .count() as u16
     }
 }
 
 #[cfg(test)]
 mod tests {
     use super::*;
-    use crate::grow::{any_size, grow, Style};
-    use second::sound::decode;
+    use crate::grow::{any_size, grow, words_of, Style};
+    use crate::scramble::scramble;
+    use second::sound::{judge, Damage};
+    use second::words::{self, Answer};
 
-    /// What is meant to break a sentence makes the words unsound, and every
-    /// sentence is found broken first by some damage meant for it.
+    /// Sound words of many sizes, reached by a history or not.
+    fn sound_words(prng: &mut Prng, run: usize, is_reached: bool) -> Vec<u16> {
+        let style = Style::any(prng);
+        let n = any_size(prng, run);
+        let mut ledger = grow(prng, style, n).ledger;
+        if !is_reached {
+            scramble(prng, &mut ledger);
+        }
+        words_of(&ledger)
+    }
+
+    /// What a call has to answer where damage is named.
+    fn answer(place: Place) -> Answer {
+        match place {
+            Place::Header => (2, 0),
+            Place::Record(row) => (14, row as i64),
+            Place::Slot(row) => (15, row as i64),
+        }
+    }
+
+    /// The second program names the place that the damage was done at, and
+    /// finds the sentence broken there that was meant. Every sentence is
+    /// broken alone by some damage meant for it, but for p above n - 1: then
+    /// some ordinal cannot be held.
     #[test]
-    fn damaged_words_are_unsound() {
+    fn damage_is_named_where_it_was_done() {
         let mut prng = Prng::new(2);
-        let mut found = Vec::new();
-        for run in 0..100 {
-            let style = Style::any(&mut prng);
-            let n = any_size(&mut prng, run);
-            let ws = grow(&mut prng, style, n).words();
-            for broken in Broken::ALL {
+        let (mut done, mut alone) = (Vec::new(), Vec::new());
+        for run in 0..200 {
+            let ws = sound_words(&mut prng, run, run % 2 == 0);
+            for kind in Kind::all() {
                 let mut damaged = ws.clone();
-                if damage(&mut prng, &mut damaged, broken) {
-                    let verdict = decode(&damaged).expect_err("damaged words are unsound");
-                    if verdict == broken {
-                        found.push(broken);
-                    }
-                } else {
+                let Some(place) = damage(&mut prng, &mut damaged, kind) else {
                     assert_eq!(damaged, ws);
+                    continue;
+                };
+                assert_eq!(words::size(&damaged, 0), answer(place), "{kind:?}");
+                let Damage(judged) = judge(&damaged);
+                if let Kind::Breaks(broken) = kind {
+                    assert!(judged.contains(&(place, broken)), "{kind:?}: {judged:?}");
+                    if judged.len() == 1 {
+                        alone.push(broken);
+                    }
                 }
+                done.push(kind);
             }
         }
+        for kind in Kind::all() {
+            assert!(done.contains(&kind), "{kind:?} was never done");
+        }
         for broken in Broken::ALL {
-            assert!(found.contains(&broken), "{broken:?} was never the first");
+            let is_alone = broken != Broken::PollsAboveBookings;
+            assert_eq!(alone.contains(&broken), is_alone, "{broken:?}");
+        }
+    }
+
+    /// Header kinds give 2, slot kinds 15, record kinds 14. Only a lost chit
+    /// may be noticed by a counter alone.
+    #[test]
+    fn each_part_has_its_number() {
+        let mut prng = Prng::new(3);
+        for run in 0..60 {
+            let ws = sound_words(&mut prng, run, run % 2 == 0);
+            let mut number_of = |kind: Kind| {
+                let mut damaged = ws.clone();
+                let place = damage(&mut prng, &mut damaged, kind);
+                place.map(|_| words::size(&damaged, 0).0)
+            };
+            for kind in Kind::HEADER {
+                assert_eq!(number_of(kind), Some(2), "{kind:?}");
+            }
+            for kind in Kind::RECORDS {
+                let number = number_of(kind);
+                let by_counter = kind == Kind::ChitLost && number == Some(15);
+                assert!(number.unwrap_or(14) == 14 || by_counter, "{kind:?}");
+            }
+            for kind in Kind::SLOTS {
+                assert_eq!(number_of(kind).unwrap_or(15), 15, "{kind:?}");
+            }
+        }
+    }
+
+    /// Every chit raised the genesis, so that it is named when one is lost.
+    #[test]
+    fn a_chit_lost_after_a_history_names_the_genesis() {
+        let mut prng = Prng::new(4);
+        let mut seen = 0;
+        for run in 0..60 {
+            let mut ws = sound_words(&mut prng, run, true);
+            if damage(&mut prng, &mut ws, Kind::ChitLost).is_some() {
+                assert_eq!(words::size(&ws, 0), (14, 0));
+                seen += 1;
+            }
+        }
+        assert!(seen > 20);
+    }
+
+    #[test]
+    fn an_ordinal_missing_from_a_full_ledger_names_512() {
+        let mut prng = Prng::new(5);
+        let mut seen = 0;
+        for _ in 0..20 {
+            let style = Style::any(&mut prng);
+            let mut ws = grow(&mut prng, style, BOOKINGS).words();
+            let kind = Kind::Breaks(Broken::OrdinalMissing);
+            if damage(&mut prng, &mut ws, kind).is_some() {
+                assert_eq!(words::size(&ws, 0), (14, 512));
+                seen += 1;
+            }
+        }
+        assert!(seen > 10);
+    }
+
+    /// Of several damages that do not touch each other the lowest is named:
+    /// a header before records, these before slots, and of two the lower.
+    #[test]
+    fn of_steady_damages_the_lowest_is_named() {
+        let mut prng = Prng::new(6);
+        let steady: Vec<Kind> = Kind::all().filter(|kind| kind.is_steady()).collect();
+        for run in 0..400 {
+            let ws = sound_words(&mut prng, run, run % 2 == 0);
+            for _ in 0..40 {
+                let count = prng.between(2, 4);
+                let kinds: Vec<Kind> = (0..count).map(|_| prng.pick(&steady)).collect();
+                let damaged = Damaged::by(&mut prng, &ws, &kinds);
+                let expected = damaged.place.map(answer);
+                let judged = expected.map(|_| words::size(&damaged.words, 0));
+                assert_eq!(judged, expected, "{kinds:?}");
+            }
+        }
+    }
+
+    /// Whatever is done beside a setting or a last word of the header that is
+    /// wrong, 2 is answered.
+    #[test]
+    fn a_damaged_header_hides_all_else() {
+        let mut prng = Prng::new(7);
+        for run in 0..60 {
+            let ws = sound_words(&mut prng, run, run % 2 == 0);
+            for kind in Kind::all() {
+                let header = prng.pick(&[Broken::SettingBad, Broken::HeaderRestNotZero]);
+                let damaged = Damaged::by(&mut prng, &ws, &[kind, Kind::Breaks(header)]);
+                assert_eq!(words::size(&damaged.words, 0), (2, 0), "{kind:?}");
+            }
+        }
+    }
+
+    /// A record that is wrong hides the slots: their damage changes nothing
+    /// in number and row.
+    #[test]
+    fn a_damaged_record_hides_slots() {
+        let mut prng = Prng::new(8);
+        for run in 0..60 {
+            let ws = sound_words(&mut prng, run, run % 2 == 0);
+            let slots = Kind::SLOTS.into_iter().filter(|kind| kind.is_steady());
+            for (record, slot) in Kind::RECORDS
+                .into_iter()
+                .flat_map(|record| slots.clone().map(move |slot| (record, slot)))
+            {
+                let mut alone = ws.clone();
+                let place = damage(&mut prng.clone(), &mut alone, record);
+                let Some(place @ Place::Record(_)) = place else {
+                    continue;
+                };
+                let damaged = Damaged::by(&mut prng, &ws, &[record, slot]);
+                let judged = words::size(&damaged.words, 0);
+                assert_eq!(judged, answer(place), "{record:?} {slot:?}");
+            }
         }
     }
 }

@@ -3,11 +3,11 @@
 use crate::call::Call;
 use crate::names::Names;
 use crate::prng::Prng;
+use second::codec::encode;
 use second::laws::History;
 use second::layout::{BOOKINGS, PARENTS, WORDS};
 use second::ledger::{Ledger, State};
 use second::setting::Setting;
-use second::sound::encode;
 
 /// Which parents a booking takes.
 #[derive(Clone, Copy, Debug)]
@@ -150,10 +150,10 @@ pub fn words_of(ledger: &Ledger) -> Vec<u16> {
 }
 
 /// How many bookings a run starts from: mostly few, sometimes many, and all
-/// of them, or nearly, in one run of ten.
+/// of them, or one or two less in turn, in one run of ten.
 pub fn any_size(prng: &mut Prng, run: usize) -> usize {
     if run.is_multiple_of(10) {
-        return prng.between(BOOKINGS - 2, BOOKINGS);
+        return BOOKINGS - run / 10 % 3;
     }
     match prng.below(20) {
         0 => 1,

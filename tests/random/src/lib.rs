@@ -7,7 +7,7 @@
 //! Ledgers:
 //! - `grow`: ledgers that a history reaches
 //! - `scramble`: sound ledgers that no history reaches
-//! - `damage`: words that break a sentence of soundness
+//! - `damage`: words that break sentences of soundness, and where
 //!
 //! Call against call:
 //! - `call`: a call, and who answers it
@@ -18,6 +18,7 @@
 //! - `station`: the product through its C face
 //! - `relay`: the same in a program beside this one
 //! - `planted`: a copy of the rules with errors to be found
+//! - `misjudged`: the errors in what it says of damage
 //!
 //! Console against console:
 //! - `flaw`: lines that are no command
@@ -34,6 +35,7 @@ pub mod damage;
 pub mod flaw;
 pub mod grow;
 pub mod guard;
+pub mod misjudged;
 pub mod names;
 pub mod planted;
 pub mod prng;

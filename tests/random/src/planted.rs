@@ -2,15 +2,17 @@
 //! the comparison finds them. Without a plant it must find nothing.
 
 use crate::call::{Call, Face};
-use second::layout::{COUNTER, ENTRIES_START, ENTRY_WORDS, WORDS};
+use crate::misjudged;
+use second::codec::{encode, ledger_of};
+use second::layout::*;
 use second::ledger::{read_vote, Ledger, Reading, State, Vote};
 use second::refusal::Refusal;
-use second::sound::{decode, encode, Broken};
 use second::words::Answer;
 use std::collections::BTreeMap;
 
 #[derive(Clone, Copy, Debug, PartialEq, Eq)]
 pub enum Plant {
+    // the rules of the vote
     NoTakesFromYes,
     NoReadAsYes,
     AncestorRaisedPerPath,
@@ -21,12 +23,32 @@ pub enum Plant {
     AcceptedWithoutParents,
     EqualUnknownParentsAreTwice,
     LongerWorkspaceTaken,
-    CounterBoundUntested,
     RefusedPollMovesP,
+    // what is damaged, and what is said of it
+    CounterBoundUntested,
+    MissingOrdinalUntested,
+    MissingOrdinalOfFullUntested,
+    MissingOrdinalAtLastRecord,
+    PollsJudgedAmongRecords,
+    UnusedRecordsChargedToN,
+    NameChargedToLowest,
+    NameChargedToHighest,
+    OrdinalChargedToLowest,
+    OrdinalAboveChargedToOthers,
+    ConfidenceBoundAmongSlots,
+    CounterBoundAmongRecords,
+    ChitsOfBrokenRecordsUncounted,
+    HighestRowNamed,
+    RecordsBeforeHeader,
+    SlotsBeforeRecords,
+    RecordsAndSlotsSwapped,
+    DamageWithoutRow,
+    UnknownNameBeforeDamage,
+    RefusedCallMendsCounters,
 }
 
 impl Plant {
-    pub const ALL: [Plant; 12] = [
+    pub const ALL: [Plant; 31] = [
         Plant::NoTakesFromYes,
         Plant::NoReadAsYes,
         Plant::AncestorRaisedPerPath,
@@ -37,8 +59,27 @@ impl Plant {
         Plant::AcceptedWithoutParents,
         Plant::EqualUnknownParentsAreTwice,
         Plant::LongerWorkspaceTaken,
-        Plant::CounterBoundUntested,
         Plant::RefusedPollMovesP,
+        Plant::CounterBoundUntested,
+        Plant::MissingOrdinalUntested,
+        Plant::MissingOrdinalOfFullUntested,
+        Plant::MissingOrdinalAtLastRecord,
+        Plant::PollsJudgedAmongRecords,
+        Plant::UnusedRecordsChargedToN,
+        Plant::NameChargedToLowest,
+        Plant::NameChargedToHighest,
+        Plant::OrdinalChargedToLowest,
+        Plant::OrdinalAboveChargedToOthers,
+        Plant::ConfidenceBoundAmongSlots,
+        Plant::CounterBoundAmongRecords,
+        Plant::ChitsOfBrokenRecordsUncounted,
+        Plant::HighestRowNamed,
+        Plant::RecordsBeforeHeader,
+        Plant::SlotsBeforeRecords,
+        Plant::RecordsAndSlotsSwapped,
+        Plant::DamageWithoutRow,
+        Plant::UnknownNameBeforeDamage,
+        Plant::RefusedCallMendsCounters,
     ];
 }
 
@@ -49,7 +90,7 @@ impl Face for Planted {
     fn call(&self, ws: &mut [u16], call: &Call) -> Answer {
         match self.answer(ws, call) {
             Ok(value) => (0, value),
-            Err(refusal) => (refusal.number(), 0),
+            Err(refusal) => (refusal.number(), refusal.value()),
         }
     }
 }
@@ -69,7 +110,7 @@ impl Planted {
             encode(&Ledger::open(*setting)?, ws);
             return Ok(0);
         }
-        let mut ledger = self.load(ws)?;
+        let mut ledger = self.load(ws, call)?;
         match call {
             Call::Open(_) => unreachable!("openings are done"),
             Call::Book {
@@ -103,18 +144,26 @@ impl Planted {
         }
     }
 
-    /// The test of soundness; the plant overlooks counters that are too high.
-    fn load(&self, ws: &[u16]) -> Result<Ledger, Refusal> {
-        match decode(ws) {
-            Err(Broken::CounterAboveChits) if self.has(Plant::CounterBoundUntested) => {
-                let mut mended = ws.to_vec();
-                for entry in mended[ENTRIES_START..].chunks_mut(ENTRY_WORDS) {
-                    entry[COUNTER] = 0;
-                }
-                decode(&mended).map_err(|_| Refusal::Unsound)
+    /// The test of soundness, with the errors planted in it and around it.
+    fn load(&self, ws: &mut [u16], call: &Call) -> Result<Ledger, Refusal> {
+        let Some(refusal) = misjudged::refusal(self.0, ws) else {
+            return Ok(ledger_of(ws));
+        };
+        if self.has(Plant::RefusedCallMendsCounters) {
+            for entry in ws[ENTRIES_START..].chunks_mut(ENTRY_WORDS) {
+                entry[COUNTER] = entry[COUNTER].min(BOOKINGS as u16 - 1);
             }
-            verdict => verdict.map_err(|_| Refusal::Unsound),
         }
+        if self.has(Plant::UnknownNameBeforeDamage) && refusal != Refusal::BrokenHeader {
+            let (Call::Poll { name, .. } | Call::Read(_, name)) = call else {
+                return Err(refusal);
+            };
+            let mut names = (0..usize::from(ws[N])).map(|b| name_of(&ws[record(b)..][..4]));
+            if !names.any(|booked| booked == *name) {
+                return Err(Refusal::NameUnknown);
+            }
+        }
+        Err(refusal)
     }
 
     fn poll(&self, ledger: &mut Ledger, name: u64, votes: &[u8]) -> Result<(), Refusal> {

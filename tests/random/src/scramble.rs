@@ -77,7 +77,7 @@ fn scramble_slots(prng: &mut Prng, ledger: &mut Ledger) {
 mod tests {
     use super::*;
     use crate::grow::{any_size, grow, words_of, Style};
-    use second::sound::decode;
+    use second::codec::decode;
 
     #[test]
     fn scrambled_ledgers_are_sound() {

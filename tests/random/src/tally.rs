@@ -2,15 +2,17 @@
 //! it would have found nothing.
 
 use crate::call::Call;
+use crate::damage::Kind;
+use second::layout::{BOOKINGS, SLOTS};
 use second::ledger::Ledger;
 use second::refusal::Refusal;
-use second::sound::Broken;
+use second::sound::{Broken, Damage, Place};
 use second::words::Answer;
-use std::collections::BTreeMap;
+use std::collections::{BTreeMap, BTreeSet};
 use std::fmt::{self, Display, Formatter};
 
 /// From this many calls on, everything must have been seen.
-pub const ENOUGH: usize = 5000;
+pub const ENOUGH: usize = 10_000;
 
 #[derive(Default)]
 pub struct Tally {
@@ -24,16 +26,16 @@ impl Tally {
     }
 
     /// Counts an answered call; `before` is the ledger it was made on, or
-    /// the sentence that it breaks.
-    pub fn add_call(&mut self, call: &Call, answer: Answer, before: &Result<Ledger, Broken>) {
+    /// what is broken in it.
+    pub fn add_call(&mut self, call: &Call, answer: Answer, before: &Result<Ledger, Damage>) {
         self.calls += 1;
         let (number, value) = answer;
         let kind = call.kind();
         if number != 0 {
             self.add(format!("{kind} refused"));
             self.add(refused(number));
-            if let (2, Err(broken)) = (number, before) {
-                self.add(unsound(*broken));
+            if let (2 | 14 | 15, Err(damage)) = (number, before) {
+                self.add_broken(damage);
             }
             return;
         }
@@ -59,11 +61,40 @@ impl Tally {
         }
     }
 
+    /// Counts what was broken when a call was refused for it.
+    fn add_broken(&mut self, damage: &Damage) {
+        let sentences: BTreeSet<Broken> = damage.0.iter().map(|&(_, broken)| broken).collect();
+        for &broken in &sentences {
+            self.add(if damage.0.len() == 1 {
+                alone(broken)
+            } else {
+                among_others(broken)
+            });
+        }
+        for (case, is_met) in CASES {
+            if is_met(damage) {
+                self.add(case);
+            }
+        }
+    }
+
+    /// Counts what was done to words before a call was refused for it.
+    pub fn add_damage(&mut self, kinds: &[Kind]) {
+        for &kind in kinds {
+            self.add(done(kind));
+        }
+    }
+
     /// What should have been seen and was not.
     pub fn missing(&self) -> Vec<String> {
         let refusals = (1..=Refusal::HIGHEST).map(refused);
         let kinds = Call::KINDS.into_iter().map(taken);
-        let sentences = Broken::ALL.into_iter().map(unsound);
+        // p above n - 1 is never alone: no ledger has so many ordinals.
+        let by_itself = |broken: &Broken| *broken != Broken::PollsAboveBookings;
+        let sentences = (Broken::ALL.into_iter().filter(by_itself).map(alone))
+            .chain(Broken::ALL.into_iter().map(among_others));
+        let damages = Kind::all().map(done);
+        let cases = CASES.into_iter().map(|(case, _)| case.to_string());
         let outcomes = [
             CHIT,
             NO_CHIT,
@@ -77,9 +108,10 @@ impl Tally {
             REACHED,
             UNREACHED,
             LAWS,
+            TOLD,
         ];
-        let all = refusals.chain(kinds).chain(sentences);
-        self.unseen(all.chain(outcomes.map(String::from)))
+        let all = refusals.chain(kinds).chain(sentences).chain(damages);
+        self.unseen(all.chain(cases).chain(outcomes.map(String::from)))
     }
 
     /// Those of the list that were never counted.
@@ -93,6 +125,7 @@ const NO_CHIT: &str = "poll without a chit";
 pub const REACHED: &str = "ledgers reached";
 pub const UNREACHED: &str = "ledgers no history reaches";
 pub const LAWS: &str = "laws checked";
+pub const TOLD: &str = "places told by the damage";
 
 fn refused(number: u32) -> String {
     format!("refusal {number:>2}")
@@ -102,8 +135,110 @@ fn taken(kind: &str) -> String {
     format!("{kind} taken")
 }
 
-fn unsound(broken: Broken) -> String {
-    format!("unsound by {broken:?}")
+fn alone(broken: Broken) -> String {
+    format!("broken alone: {broken:?}")
+}
+
+fn among_others(broken: Broken) -> String {
+    format!("broken among others: {broken:?}")
+}
+
+fn done(kind: Kind) -> String {
+    format!("done: {kind:?}")
+}
+
+/// A name, and whether damage is a case of it.
+type Case = (&'static str, fn(&Damage) -> bool);
+
+/// Which row is named, and what is broken beside it.
+const CASES: [Case; 18] = [
+    ("damage: two sentences", |damage| damage.0.len() == 2),
+    ("damage: three sentences or more", |damage| {
+        damage.0.len() > 2
+    }),
+    ("damage: two sentences in one row", |damage| {
+        rows(damage, |_| true) < damage.0.len()
+    }),
+    ("damage: several records", |damage| {
+        rows(damage, is_record) > 1
+    }),
+    ("damage: several slots", |damage| rows(damage, is_slot) > 1),
+    ("2 hides records", |damage| {
+        at(damage, is_header) && rows(damage, is_record) > 0
+    }),
+    ("2 hides slots", |damage| {
+        at(damage, is_header) && rows(damage, is_slot) > 0
+    }),
+    ("14 hides slots", |damage| {
+        at(damage, is_record) && rows(damage, is_slot) > 0
+    }),
+    ("14 names 0", |damage| {
+        damage.lowest() == Some(Place::Record(0))
+    }),
+    ("14 names the genesis for its confidence", |damage| {
+        is_named_for(damage, Broken::ConfidenceAboveChits)
+            && damage.lowest() == Some(Place::Record(0))
+    }),
+    ("14 names a row above 0 for its confidence", |damage| {
+        is_named_for(damage, Broken::ConfidenceAboveChits)
+            && damage.lowest() != Some(Place::Record(0))
+    }),
+    ("14 names a record from n on", |damage| {
+        is_named_for(damage, Broken::UnusedRecordNotZero)
+    }),
+    ("14 names 511", |damage| {
+        damage.lowest() == Some(Place::Record(BOOKINGS - 1))
+    }),
+    ("14 names n below 512 for an ordinal", |damage| {
+        is_named_for(damage, Broken::OrdinalMissing)
+            && damage.lowest() != Some(Place::Record(BOOKINGS))
+    }),
+    ("14 names 512", |damage| {
+        damage.lowest() == Some(Place::Record(BOOKINGS))
+    }),
+    ("15 names 0", |damage| {
+        damage.lowest() == Some(Place::Slot(0))
+    }),
+    ("15 names a slot between", |damage| {
+        at(damage, is_slot)
+            && damage.lowest() > Some(Place::Slot(0))
+            && damage.lowest() < Some(Place::Slot(SLOTS - 1))
+    }),
+    ("15 names 255", |damage| {
+        damage.lowest() == Some(Place::Slot(SLOTS - 1))
+    }),
+];
+
+fn is_header(place: Place) -> bool {
+    place == Place::Header
+}
+
+fn is_record(place: Place) -> bool {
+    matches!(place, Place::Record(_))
+}
+
+fn is_slot(place: Place) -> bool {
+    matches!(place, Place::Slot(_))
+}
+
+/// Is the place named one of these?
+fn at(damage: &Damage, is_meant: fn(Place) -> bool) -> bool {
+    damage.lowest().is_some_and(is_meant)
+}
+
+/// Does the row that is named break this sentence and no other?
+fn is_named_for(damage: &Damage, broken: Broken) -> bool {
+    let named = damage
+        .0
+        .iter()
+        .filter(|breach| Some(breach.0) == damage.lowest());
+    named.map(|breach| breach.1).eq([broken])
+}
+
+/// How many of these rows are damaged.
+fn rows(damage: &Damage, is_meant: fn(Place) -> bool) -> usize {
+    let places: BTreeSet<Place> = damage.0.iter().map(|&(place, _)| place).collect();
+    places.into_iter().filter(|&place| is_meant(place)).count()
 }
 
 impl Display for Tally {
@@ -112,5 +247,138 @@ impl Display for Tally {
             writeln!(f, "{count:>9}  {what}")?;
         }
         Ok(())
+    }
+}
+
+#[cfg(test)]
+mod tests {
+    use super::*;
+    use Place::*;
+
+    /// Damage with these breaches is a case of exactly these.
+    fn meets(breaches: &[(Place, Broken)], cases: &[&'static str]) -> Vec<&'static str> {
+        let damage = Damage(breaches.iter().copied().collect());
+        let met = CASES.iter().filter(|(_, is_met)| is_met(&damage));
+        let met: Vec<&str> = met.map(|(case, _)| *case).collect();
+        assert_eq!(met, cases, "{breaches:?}");
+        met
+    }
+
+    #[test]
+    fn each_case_is_what_its_name_says() {
+        let met = [
+            meets(&[(Header, Broken::SettingBad)], &[]),
+            meets(
+                &[
+                    (Header, Broken::SettingBad),
+                    (Header, Broken::HeaderRestNotZero),
+                ],
+                &["damage: two sentences", "damage: two sentences in one row"],
+            ),
+            meets(
+                &[
+                    (Header, Broken::SettingBad),
+                    (Record(0), Broken::ConfidenceAboveChits),
+                ],
+                &["damage: two sentences", "2 hides records"],
+            ),
+            meets(
+                &[
+                    (Header, Broken::PollsAboveBookings),
+                    (Record(512), Broken::OrdinalMissing),
+                    (Slot(0), Broken::CountNotTrue),
+                ],
+                &[
+                    "damage: three sentences or more",
+                    "2 hides records",
+                    "2 hides slots",
+                ],
+            ),
+            meets(&[(Record(0), Broken::GenesisState)], &["14 names 0"]),
+            meets(
+                &[(Record(0), Broken::ConfidenceAboveChits)],
+                &["14 names 0", "14 names the genesis for its confidence"],
+            ),
+            meets(
+                &[(Record(3), Broken::ConfidenceAboveChits)],
+                &["14 names a row above 0 for its confidence"],
+            ),
+            // It breaks another rule too, and would be named without this.
+            meets(
+                &[
+                    (Record(3), Broken::NoParent),
+                    (Record(3), Broken::ConfidenceAboveChits),
+                ],
+                &["damage: two sentences", "damage: two sentences in one row"],
+            ),
+            meets(
+                &[
+                    (Record(9), Broken::NameTwice),
+                    (Record(12), Broken::NameTwice),
+                ],
+                &["damage: two sentences", "damage: several records"],
+            ),
+            meets(
+                &[(Record(9), Broken::UnusedRecordNotZero)],
+                &["14 names a record from n on"],
+            ),
+            meets(&[(Record(511), Broken::NameTwice)], &["14 names 511"]),
+            meets(
+                &[(Record(511), Broken::OrdinalMissing)],
+                &["14 names 511", "14 names n below 512 for an ordinal"],
+            ),
+            meets(
+                &[
+                    (Record(512), Broken::OrdinalMissing),
+                    (Slot(0), Broken::CountNotTrue),
+                ],
+                &["damage: two sentences", "14 hides slots", "14 names 512"],
+            ),
+            meets(&[(Slot(0), Broken::CountNotTrue)], &["15 names 0"]),
+            meets(
+                &[
+                    (Slot(7), Broken::CountNotTrue),
+                    (Slot(255), Broken::EmptySlotFilled),
+                ],
+                &[
+                    "damage: two sentences",
+                    "damage: several slots",
+                    "15 names a slot between",
+                ],
+            ),
+            meets(&[(Slot(255), Broken::EmptySlotFilled)], &["15 names 255"]),
+        ];
+        for (case, _) in CASES {
+            assert!(met.iter().flatten().any(|met| *met == case), "{case}");
+        }
+    }
+
+    /// What a run never reached is told, and what it reached is not.
+    #[test]
+    fn what_was_not_reached_is_missing() {
+        let mut tally = Tally::default();
+        let call = Call::Read(second::ledger::Reading::Size, 0);
+        let damage = Damage([(Slot(255), Broken::EmptySlotFilled)].into());
+        let is_missing = |tally: &Tally, what: &str| tally.missing().iter().any(|m| m == what);
+        let reached = [
+            "refusal 15",
+            "broken alone: EmptySlotFilled",
+            "15 names 255",
+        ];
+        for what in reached {
+            assert!(is_missing(&tally, what));
+        }
+        tally.add_call(&call, (15, 255), &Err(damage));
+        for what in reached {
+            assert!(!is_missing(&tally, what));
+        }
+        for what in [
+            "refusal 14",
+            "broken among others: EmptySlotFilled",
+            "done: Breaks(EmptySlotFilled)",
+            "14 names 512",
+        ] {
+            assert!(is_missing(&tally, what));
+        }
     }
 }

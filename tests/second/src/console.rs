@@ -1,7 +1,8 @@
 //! The text program: lines in, answers out.
 //!
 //! It keeps its ledger as maps and trusts them; before a taken opening there
-//! is none, and every call but an opening is refused as unsound.
+//! is none, and every call but an opening is refused as it would be on words
+//! that are all zero: their n is no number of bookings.
 
 use crate::command::{parse, Command};
 use crate::ledger::Ledger;
@@ -59,7 +60,7 @@ impl Console {
             self.ledger = Some(Ledger::open(Setting { k, a, beta1, beta2 })?);
             return Ok(());
         }
-        let ledger = self.ledger.as_mut().ok_or(Refusal::Unsound)?;
+        let ledger = self.ledger.as_mut().ok_or(Refusal::BrokenHeader)?;
         match command {
             Command::Open(_) => unreachable!("openings are done"),
             Command::Book {

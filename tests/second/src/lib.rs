@@ -6,14 +6,16 @@
 //!
 //! - `layout`: where each word of the workspace stands
 //! - `setting`: k, a, β1, β2, and which are good
-//! - `refusal`: the numbered refusals
+//! - `refusal`: the numbered refusals, and the row that some of them name
 //! - `ledger`: the rules of the vote, on maps
-//! - `sound`: words to a ledger, naming the sentence of soundness they break
+//! - `sound`: which sentences of soundness words break, and at which row
+//! - `codec`: words to a ledger and back
 //! - `words`: the public calls on lent words
 //! - `command`: a line of text to a command
 //! - `console`: the text program
 //! - `laws`: what must hold after every history, checked from outside
 
+pub mod codec;
 pub mod command;
 pub mod console;
 pub mod laws;

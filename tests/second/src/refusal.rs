@@ -1,39 +1,68 @@
-//! Why a call is refused, and the number the caller gets.
+//! Why a call is refused, and the number and the value the caller gets.
 
 #[derive(Clone, Copy, Debug, PartialEq, Eq)]
 pub enum Refusal {
     /// The workspace has another length.
-    Length = 1,
-    /// The workspace breaks a sentence of soundness.
-    Unsound = 2,
+    Length,
+    /// The header breaks a rule.
+    BrokenHeader,
     /// The setting is not good.
-    Setting = 3,
+    Setting,
     /// The new name is taken.
-    NameBooked = 4,
+    NameBooked,
     /// The slot is the genesis' own, or there is none such.
-    Slot = 5,
+    Slot,
     /// No parents, or too many.
-    ParentCount = 6,
+    ParentCount,
     /// A parent that nobody booked.
-    ParentUnknown = 7,
+    ParentUnknown,
     /// The same parent again.
-    ParentTwice = 8,
+    ParentTwice,
     /// No room for another booking.
-    Full = 9,
+    Full,
     /// The name asked for is not in the ledger.
-    NameUnknown = 10,
+    NameUnknown,
     /// The booking had its poll.
-    NotWaiting = 11,
+    NotWaiting,
     /// Not k votes.
-    VoteCount = 12,
+    VoteCount,
     /// A byte that is no vote.
-    VoteByte = 13,
+    VoteByte,
+    /// The header is right and a record breaks a rule: the lowest that does.
+    BrokenRecord(usize),
+    /// Header and records are right and a slot entry breaks a rule: the
+    /// lowest that does.
+    BrokenEntry(usize),
 }
 
 impl Refusal {
-    pub const HIGHEST: u32 = 13;
+    pub const HIGHEST: u32 = 15;
 
     pub fn number(self) -> u32 {
-        self as u32
+        match self {
+            Refusal::Length => 1,
+            Refusal::BrokenHeader => 2,
+            Refusal::Setting => 3,
+            Refusal::NameBooked => 4,
+            Refusal::Slot => 5,
+            Refusal::ParentCount => 6,
+            Refusal::ParentUnknown => 7,
+            Refusal::ParentTwice => 8,
+            Refusal::Full => 9,
+            Refusal::NameUnknown => 10,
+            Refusal::NotWaiting => 11,
+            Refusal::VoteCount => 12,
+            Refusal::VoteByte => 13,
+            Refusal::BrokenRecord(_) => 14,
+            Refusal::BrokenEntry(_) => 15,
+        }
+    }
+
+    /// The row that is damaged, where a row is named; otherwise 0.
+    pub fn value(self) -> i64 {
+        match self {
+            Refusal::BrokenRecord(row) | Refusal::BrokenEntry(row) => row as i64,
+            _ => 0,
+        }
     }
 }

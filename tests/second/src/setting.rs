@@ -1,5 +1,7 @@
 //! The setting of a ledger.
 
+use crate::layout::{A, BETA1, BETA2, K};
+
 /// k votes in a poll, a yes votes needed, and the two acceptance bounds.
 #[derive(Clone, Copy, Debug, PartialEq, Eq)]
 pub struct Setting {
@@ -19,6 +21,16 @@ impl Setting {
     };
     pub const MOST_VOTES: u16 = 64;
     pub const MOST_BETA: u16 = 510;
+
+    /// The setting that a header holds, good or not.
+    pub fn of_words(ws: &[u16]) -> Setting {
+        Setting {
+            k: ws[K],
+            a: ws[A],
+            beta1: ws[BETA1],
+            beta2: ws[BETA2],
+        }
+    }
 
     /// k within its limits, a more than half of k and not above it,
     /// the bounds in order and within theirs.

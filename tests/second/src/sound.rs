@@ -1,12 +1,16 @@
-//! Words to a ledger and back.
+//! Which sentences of soundness a workspace breaks, and where.
 //!
-//! `decode` is the test of soundness: it answers a ledger exactly if the
-//! words are sound, and otherwise names the first sentence found broken.
+//! Every row is judged by itself: the header, each record and each slot
+//! entry gives the list of the sentences that it breaks. What a row alone
+//! cannot show (who held a name first, how many chits there are) is gathered
+//! from the words as they stand, damaged or not. The refusal then names the
+//! lowest place where anything is broken.
 
 use crate::layout::*;
-use crate::ledger::{Booking, Ledger, Slot, State};
+use crate::ledger::GENESIS;
+use crate::refusal::Refusal;
 use crate::setting::Setting;
-use std::collections::{BTreeMap, HashMap};
+use std::collections::{BTreeSet, HashMap};
 
 /// The sentences of soundness, each named by what breaks it.
 #[derive(Clone, Copy, Debug, PartialEq, Eq, PartialOrd, Ord)]
@@ -80,213 +84,221 @@ impl Broken {
     ];
 }
 
-/// Fails with the named sentence unless it holds.
-fn holds(sentence: bool, broken: Broken) -> Result<(), Broken> {
-    if sentence {
-        Ok(())
-    } else {
-        Err(broken)
+/// Where a sentence is broken. Their order is that of the refusals: the
+/// header before the records, these before the slots, each from below.
+#[derive(Clone, Copy, Debug, PartialEq, Eq, PartialOrd, Ord)]
+pub enum Place {
+    Header,
+    /// A record's number. On a full ledger n itself is 512 and no record's,
+    /// and a missing ordinal is charged to it all the same.
+    Record(usize),
+    Slot(usize),
+}
+
+impl Place {
+    pub fn refusal(self) -> Refusal {
+        match self {
+            Place::Header => Refusal::BrokenHeader,
+            Place::Record(row) => Refusal::BrokenRecord(row),
+            Place::Slot(row) => Refusal::BrokenEntry(row),
+        }
     }
 }
 
-/// The ledger that a workspace's words hold, if they are sound. The length
-/// is the caller's to judge.
-pub fn decode(ws: &[u16]) -> Result<Ledger, Broken> {
+/// Everything that is broken in a workspace, each sentence at its place.
+#[derive(Clone, Debug, Default, PartialEq, Eq)]
+pub struct Damage(pub BTreeSet<(Place, Broken)>);
+
+impl Damage {
+    /// The place that the refusal names, if anything is broken.
+    pub fn lowest(&self) -> Option<Place> {
+        self.0.first().map(|&(place, _)| place)
+    }
+
+    fn add(&mut self, place: Place, broken: Vec<Broken>) {
+        self.0.extend(broken.into_iter().map(|b| (place, b)));
+    }
+}
+
+/// All that is broken in the words; their number is the caller's to judge.
+/// Where n is no number of bookings nobody can say what a record has to be,
+/// and the header alone is judged.
+pub fn judge(ws: &[u16]) -> Damage {
+    let mut damage = Damage::default();
+    damage.add(Place::Header, judge_header(ws));
     let n = usize::from(ws[N]);
-    holds((1..=BOOKINGS).contains(&n), Broken::BookingsOutside)?;
-    let setting = Setting {
-        k: ws[K],
-        a: ws[A],
-        beta1: ws[BETA1],
-        beta2: ws[BETA2],
-    };
-    holds(setting.is_good(), Broken::SettingBad)?;
-    let polls = ws[P];
-    holds(usize::from(polls) < n, Broken::PollsAboveBookings)?;
+    if !is_bookings(n) {
+        return damage;
+    }
+    let ledger = Together::of(ws, n);
+    for b in 0..n {
+        damage.add(Place::Record(b), ledger.judge_record(b));
+    }
+    for b in n..BOOKINGS {
+        damage.add(
+            Place::Record(b),
+            judge_unused(&ws[record(b)..record(b + 1)]),
+        );
+    }
+    damage.add(Place::Record(n), ledger.judge_missing());
+    for s in 0..SLOTS {
+        damage.add(Place::Slot(s), ledger.judge_slot(s));
+    }
+    damage
+}
+
+/// Those of the sentences that do not hold.
+fn not_held<const COUNT: usize>(sentences: [(bool, Broken); COUNT]) -> Vec<Broken> {
+    let is_broken = |&(holds, _): &(bool, Broken)| !holds;
+    let broken = sentences.into_iter().filter(is_broken);
+    broken.map(|(_, broken)| broken).collect()
+}
+
+/// From the genesis alone to a full ledger.
+fn is_bookings(n: usize) -> bool {
+    (1..=BOOKINGS).contains(&n)
+}
+
+fn judge_header(ws: &[u16]) -> Vec<Broken> {
+    let (n, polls) = (ws[N], ws[P]);
     let rest = &ws[REST..HEADER_WORDS];
-    holds(
-        rest.iter().all(|&word| word == 0),
-        Broken::HeaderRestNotZero,
-    )?;
+    not_held([
+        (is_bookings(usize::from(n)), Broken::BookingsOutside),
+        (Setting::of_words(ws).is_good(), Broken::SettingBad),
+        (polls < n, Broken::PollsAboveBookings),
+        (is_zero(rest), Broken::HeaderRestNotZero),
+    ])
+}
 
-    let mut bookings = vec![decode_genesis(ws)?];
-    for b in 1..n {
-        bookings.push(decode_booking(ws, b)?);
-    }
-    let mut numbers = HashMap::with_capacity(n);
-    for (b, booking) in bookings.iter().enumerate() {
-        let known = numbers.insert(booking.name, b);
-        holds(known.is_none(), Broken::NameTwice)?;
-    }
-    check_ordinals(&bookings, polls)?;
-    let unused = &ws[record(n)..ENTRIES_START];
-    holds(
-        unused.iter().all(|&word| word == 0),
-        Broken::UnusedRecordNotZero,
-    )?;
-    let slots = decode_slots(ws, &bookings)?;
+fn judge_unused(words: &[u16]) -> Vec<Broken> {
+    not_held([(is_zero(words), Broken::UnusedRecordNotZero)])
+}
 
-    let chits = bookings.iter().filter(|b| b.state == State::Chit).count();
-    holds(
-        bookings.iter().all(|b| usize::from(b.confidence) <= chits),
-        Broken::ConfidenceAboveChits,
-    )?;
-    holds(
-        slots.values().all(|s| usize::from(s.counter) <= chits),
-        Broken::CounterAboveChits,
-    )?;
-    Ok(Ledger {
-        setting,
-        polls,
-        bookings,
-        numbers,
-        slots,
-    })
+fn is_zero(words: &[u16]) -> bool {
+    words.iter().all(|&word| word == 0)
+}
+
+/// What the records below n show together.
+struct Together<'a> {
+    ws: &'a [u16],
+    /// The lowest holder of each name, and of each ordinal above 0.
+    by_name: HashMap<u64, usize>,
+    by_ordinal: HashMap<u16, usize>,
+    /// How many records have state 2.
+    chits: u16,
+    /// The bookings of each slot. One whose slot is none of ours is in none.
+    members: Vec<Vec<usize>>,
+}
+
+impl Together<'_> {
+    fn of(ws: &[u16], n: usize) -> Together<'_> {
+        let mut together = Together {
+            ws,
+            by_name: HashMap::with_capacity(n),
+            by_ordinal: HashMap::new(),
+            chits: 0,
+            members: vec![Vec::new(); SLOTS],
+        };
+        for b in 0..n {
+            let words = &ws[record(b)..record(b + 1)];
+            let name = name_of(&words[NAME..SLOT]);
+            together.by_name.entry(name).or_insert(b);
+            if words[ORDINAL] != 0 {
+                together.by_ordinal.entry(words[ORDINAL]).or_insert(b);
+            }
+            if words[STATE] == 2 {
+                together.chits += 1;
+            }
+            if let Some(members) = together.members.get_mut(usize::from(words[SLOT])) {
+                members.push(b);
+            }
+        }
+        together
+    }
+
+    /// A record below n.
+    fn judge_record(&self, b: usize) -> Vec<Broken> {
+        let words = &self.ws[record(b)..record(b + 1)];
+        let mut broken = if b == GENESIS {
+            judge_genesis(words)
+        } else {
+            self.judge_booking(b, words)
+        };
+        let ordinal = words[ORDINAL];
+        let is_first = ordinal == 0 || self.by_ordinal[&ordinal] == b;
+        broken.extend(not_held([
+            (ordinal <= self.ws[P], Broken::OrdinalAbovePolls),
+            (is_first, Broken::OrdinalTwice),
+            (
+                words[CONFIDENCE] <= self.chits,
+                Broken::ConfidenceAboveChits,
+            ),
+        ]));
+        broken
+    }
+
+    /// A record below n that is not the genesis.
+    fn judge_booking(&self, b: usize, words: &[u16]) -> Vec<Broken> {
+        let name = name_of(&words[NAME..SLOT]);
+        let slot = usize::from(words[SLOT]);
+        let (state, ordinal) = (words[STATE], words[ORDINAL]);
+        let places = &words[PARENT..STATE];
+        let parents: Vec<u16> = places.iter().copied().filter(|&p| p != UNUSED).collect();
+        let is_repeated = |i: usize| parents[..i].contains(&parents[i]);
+        let is_gap = |pair: &[u16]| pair[0] == UNUSED && pair[1] != UNUSED;
+        not_held([
+            (self.by_name[&name] == b, Broken::NameTwice),
+            ((1..SLOTS).contains(&slot), Broken::SlotOutside),
+            (!parents.is_empty(), Broken::NoParent),
+            (!places.windows(2).any(is_gap), Broken::GapInParents),
+            (!(0..parents.len()).any(is_repeated), Broken::ParentTwice),
+            (
+                parents.iter().all(|&p| usize::from(p) < b),
+                Broken::ParentNotLower,
+            ),
+            (state <= 2, Broken::StateOutside),
+            (state != 0 || ordinal == 0, Broken::WaitingWithOrdinal),
+            (state == 0 || ordinal != 0, Broken::PolledWithoutOrdinal),
+        ])
+    }
+
+    /// Is there a poll that no record holds?
+    fn judge_missing(&self) -> Vec<Broken> {
+        let is_held = |ordinal| self.by_ordinal.contains_key(&ordinal);
+        not_held([((1..=self.ws[P]).all(is_held), Broken::OrdinalMissing)])
+    }
+
+    /// A slot entry. The records say which bookings the slot has.
+    fn judge_slot(&self, s: usize) -> Vec<Broken> {
+        let words = &self.ws[entry(s)..entry(s + 1)];
+        let members = &self.members[s];
+        let is_member = |word: u16| members.contains(&usize::from(word));
+        let mut broken = if members.is_empty() {
+            not_held([(words == EMPTY_ENTRY, Broken::EmptySlotFilled)])
+        } else {
+            not_held([
+                (
+                    usize::from(words[COUNT]) == members.len(),
+                    Broken::CountNotTrue,
+                ),
+                (is_member(words[PREFERRED]), Broken::PreferredElsewhere),
+                (is_member(words[LAST]), Broken::LastElsewhere),
+            ])
+        };
+        let is_bounded = words[COUNTER] <= self.chits;
+        broken.extend(not_held([(is_bounded, Broken::CounterAboveChits)]));
+        broken
+    }
 }
 
 /// Record 0: nothing but its confidence is free.
-fn decode_genesis(ws: &[u16]) -> Result<Booking, Broken> {
-    let words = &ws[record(0)..record(1)];
-    let name = name_of(&words[NAME..SLOT]);
-    holds(name == 0, Broken::GenesisName)?;
-    holds(words[SLOT] == 0, Broken::GenesisSlot)?;
-    let parents = &words[PARENT..STATE];
-    holds(
-        parents.iter().all(|&parent| parent == UNUSED),
-        Broken::GenesisParents,
-    )?;
-    holds(words[STATE] == State::Polled as u16, Broken::GenesisState)?;
-    holds(words[ORDINAL] == 0, Broken::GenesisOrdinal)?;
-    Ok(Booking {
-        name,
-        slot: 0,
-        parents: Vec::new(),
-        state: State::Polled,
-        confidence: words[CONFIDENCE],
-        ordinal: 0,
-    })
-}
-
-/// What can be said of one record without looking at the others.
-fn decode_booking(ws: &[u16], b: usize) -> Result<Booking, Broken> {
-    let words = &ws[record(b)..record(b + 1)];
-    let slot = words[SLOT];
-    holds(slot != 0 && usize::from(slot) < SLOTS, Broken::SlotOutside)?;
-
+fn judge_genesis(words: &[u16]) -> Vec<Broken> {
     let places = &words[PARENT..STATE];
-    let used = places.iter().filter(|&&parent| parent != UNUSED).count();
-    holds(used > 0, Broken::NoParent)?;
-    let (parents, after) = places.split_at(used);
-    holds(
-        after.iter().all(|&parent| parent == UNUSED),
-        Broken::GapInParents,
-    )?;
-    let parents: Vec<usize> = parents.iter().map(|&parent| usize::from(parent)).collect();
-    for (i, parent) in parents.iter().enumerate() {
-        holds(!parents[..i].contains(parent), Broken::ParentTwice)?;
-        holds(*parent < b, Broken::ParentNotLower)?;
-    }
-
-    let state = match words[STATE] {
-        0 => State::Waiting,
-        1 => State::Polled,
-        2 => State::Chit,
-        3..=u16::MAX => return Err(Broken::StateOutside),
-    };
-    let ordinal = words[ORDINAL];
-    if state == State::Waiting {
-        holds(ordinal == 0, Broken::WaitingWithOrdinal)?;
-    } else {
-        holds(ordinal != 0, Broken::PolledWithoutOrdinal)?;
-    }
-    Ok(Booking {
-        name: name_of(&words[NAME..SLOT]),
-        slot,
-        parents,
-        state,
-        confidence: words[CONFIDENCE],
-        ordinal,
-    })
-}
-
-/// Each ordinal from 1 to p is held once, and there are no others.
-fn check_ordinals(bookings: &[Booking], polls: u16) -> Result<(), Broken> {
-    let mut is_held = vec![false; usize::from(polls) + 1];
-    for booking in bookings.iter().filter(|booking| booking.ordinal != 0) {
-        holds(booking.ordinal <= polls, Broken::OrdinalAbovePolls)?;
-        let is_held = &mut is_held[usize::from(booking.ordinal)];
-        holds(!*is_held, Broken::OrdinalTwice)?;
-        *is_held = true;
-    }
-    let is_complete = is_held.iter().skip(1).all(|&held| held);
-    holds(is_complete, Broken::OrdinalMissing)
-}
-
-/// The slots that have bookings. The records say which those are; the
-/// entry's own count is judged by them.
-fn decode_slots(ws: &[u16], bookings: &[Booking]) -> Result<BTreeMap<u16, Slot>, Broken> {
-    let mut members = vec![Vec::new(); SLOTS];
-    for (b, booking) in bookings.iter().enumerate() {
-        members[usize::from(booking.slot)].push(b);
-    }
-    let mut slots = BTreeMap::new();
-    for (s, bookings) in members.into_iter().enumerate() {
-        let words = &ws[entry(s)..entry(s + 1)];
-        if bookings.is_empty() {
-            holds(words == EMPTY_ENTRY, Broken::EmptySlotFilled)?;
-            continue;
-        }
-        let slot = Slot {
-            preferred: usize::from(words[PREFERRED]),
-            last: usize::from(words[LAST]),
-            counter: words[COUNTER],
-            bookings,
-        };
-        holds(
-            usize::from(words[COUNT]) == slot.bookings.len(),
-            Broken::CountNotTrue,
-        )?;
-        holds(
-            slot.bookings.contains(&slot.preferred),
-            Broken::PreferredElsewhere,
-        )?;
-        holds(slot.bookings.contains(&slot.last), Broken::LastElsewhere)?;
-        slots.insert(s as u16, slot);
-    }
-    Ok(slots)
-}
-
-/// Writes every word of the workspace.
-pub fn encode(ledger: &Ledger, ws: &mut [u16]) {
-    ws.fill(0);
-    ws[N] = ledger.bookings.len() as u16;
-    ws[K] = ledger.setting.k;
-    ws[A] = ledger.setting.a;
-    ws[BETA1] = ledger.setting.beta1;
-    ws[BETA2] = ledger.setting.beta2;
-    ws[P] = ledger.polls;
-    for (b, booking) in ledger.bookings.iter().enumerate() {
-        let words = &mut ws[record(b)..record(b + 1)];
-        words[NAME..SLOT].copy_from_slice(&name_words(booking.name));
-        words[SLOT] = booking.slot;
-        words[PARENT..STATE].fill(UNUSED);
-        for (place, &parent) in words[PARENT..STATE].iter_mut().zip(&booking.parents) {
-            *place = parent as u16;
-        }
-        words[STATE] = booking.state as u16;
-        words[CONFIDENCE] = booking.confidence;
-        words[ORDINAL] = booking.ordinal;
-    }
-    for s in 0..SLOTS {
-        let words = match ledger.slots.get(&(s as u16)) {
-            None => EMPTY_ENTRY,
-            Some(slot) => [
-                slot.preferred as u16,
-                slot.last as u16,
-                slot.counter,
-                slot.bookings.len() as u16,
-            ],
-        };
-        ws[entry(s)..entry(s + 1)].copy_from_slice(&words);
-    }
+    not_held([
+        (is_zero(&words[NAME..SLOT]), Broken::GenesisName),
+        (words[SLOT] == 0, Broken::GenesisSlot),
+        (places.iter().all(|&p| p == UNUSED), Broken::GenesisParents),
+        (words[STATE] == 1, Broken::GenesisState),
+        (words[ORDINAL] == 0, Broken::GenesisOrdinal),
+    ])
 }

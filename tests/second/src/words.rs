@@ -3,28 +3,33 @@
 //! Every call reads the words into a ledger, works there, and writes the
 //! whole ledger back only when it was taken. So a refused call changes none.
 
+use crate::codec::{encode, ledger_of};
 use crate::layout::WORDS;
 use crate::ledger::{Ledger, Reading};
 use crate::refusal::Refusal;
 use crate::setting::Setting;
-use crate::sound::{decode, encode};
+use crate::sound::judge;
 
-/// A number, 0 for a taken call, and a value, 0 for a refused one.
+/// A number, 0 for a taken call, and a value; a refusal's is 0 unless it
+/// names a damaged row.
 pub type Answer = (u32, i64);
 
 fn answer(result: Result<i64, Refusal>) -> Answer {
     match result {
         Ok(value) => (0, value),
-        Err(refusal) => (refusal.number(), 0),
+        Err(refusal) => (refusal.number(), refusal.value()),
     }
 }
 
-/// Refusals 1 and 2 come before all others.
+/// Refusals 1, 2, 14 and 15 come before all others.
 fn load(ws: &[u16]) -> Result<Ledger, Refusal> {
     if ws.len() != WORDS {
         return Err(Refusal::Length);
     }
-    decode(ws).map_err(|_| Refusal::Unsound)
+    match judge(ws).lowest() {
+        Some(place) => Err(place.refusal()),
+        None => Ok(ledger_of(ws)),
+    }
 }
 
 /// Opening looks at the length and the setting, never at the old words.

@@ -1,5 +1,6 @@
 //! Every refusal on both sides of its border, the order of refusals, and
-//! that a refused call changes no word.
+//! that a refused call changes no word. All have value 0 but 14 and 15, of
+//! which `soundness.rs` and `damage.rs` say more.
 
 mod ledgers;
 use ledgers::*;
@@ -9,8 +10,13 @@ use second::words::*;
 /// A call on the words answers the number, with value 0 and, if it is a
 /// refusal, with every word as before.
 fn answers(ws: &[u16], number: u32, call: impl FnOnce(&mut [u16]) -> Answer) {
+    names(ws, number, 0, call);
+}
+
+/// The same with a value.
+fn names(ws: &[u16], number: u32, value: i64, call: impl FnOnce(&mut [u16]) -> Answer) {
     let mut after = ws.to_vec();
-    assert_eq!(call(&mut after), (number, 0));
+    assert_eq!(call(&mut after), (number, value));
     if number != 0 {
         assert_eq!(after, ws);
     }
@@ -53,6 +59,39 @@ fn refusal_2_all_zero_words() {
         answers(&ws, 2, |ws| reading(ws, 0));
     }
     // Opening does not look at the old words.
+    answers(&ws, 0, |ws| open(ws, 1, 1, 1, 1));
+}
+
+/// Run's chits number three: that many, then one more.
+#[test]
+fn refusal_14_a_record() {
+    let mut ws = run_polled(4);
+    ws[record(3) + CONFIDENCE] = 3;
+    answers(&ws, 0, |ws| book(ws, 9, 1, &[0]));
+    answers(&ws, 11, |ws| poll(ws, 1, &[]));
+    ws[record(3) + CONFIDENCE] = 4;
+    names(&ws, 14, 3, |ws| book(ws, 9, 1, &[0]));
+    names(&ws, 14, 3, |ws| poll(ws, 1, &[]));
+    for reading in [query, accepted, lead, confidence, size] {
+        names(&ws, 14, 3, |ws| reading(ws, 77));
+    }
+    answers(&ws, 3, |ws| open(ws, 0, 0, 0, 0));
+    answers(&ws, 0, |ws| open(ws, 1, 1, 1, 1));
+}
+
+#[test]
+fn refusal_15_a_slot_entry() {
+    let mut ws = run_polled(4);
+    ws[entry(9) + COUNTER] = 3;
+    answers(&ws, 0, |ws| book(ws, 9, 1, &[0]));
+    answers(&ws, 11, |ws| poll(ws, 1, &[]));
+    ws[entry(9) + COUNTER] = 4;
+    names(&ws, 15, 9, |ws| book(ws, 9, 1, &[0]));
+    names(&ws, 15, 9, |ws| poll(ws, 1, &[]));
+    for reading in [query, accepted, lead, confidence, size] {
+        names(&ws, 15, 9, |ws| reading(ws, 77));
+    }
+    answers(&ws, 3, |ws| open(ws, 0, 0, 0, 0));
     answers(&ws, 0, |ws| open(ws, 1, 1, 1, 1));
 }
 

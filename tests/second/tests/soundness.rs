@@ -1,117 +1,202 @@
-//! Each sentence of soundness broken alone, and sound words at the borders.
+//! Each sentence of soundness broken alone, with the number and the row that
+//! the calls answer, and sound words at the borders.
 //!
 //! Every case starts from sound words, mostly those of Run after all polls,
 //! and changes as little as breaks the sentence. Where a sentence is broken
 //! only together with another (a record that leaves its slot is missing
-//! there), a second case mends the other one.
+//! there), a second case mends the other one. Run has n = 5, p = 4, three
+//! chits, and these rows:
+//!
+//! ```text
+//! record  slot  parents  state  confidence  ordinal
+//!      0     0               1           3        0
+//!      1     7  0            2           2        4
+//!      2     7  0            2           2        1
+//!      3     9  1            1           0        2
+//!      4    10  1 2          2           1        3
+//!
+//! slot  preferred  last  counter  bookings
+//!    0          0     0        3         1
+//!    7          2     1        0         2
+//!    9          3     3        0         1
+//!   10          4     4        1         1
+//! ```
 
+mod damaged;
 mod ledgers;
+use damaged::*;
 use ledgers::*;
 use second::layout::*;
-use second::sound::{decode, Broken};
-use second::words;
+use second::sound::{judge, Broken, Damage, Place::*};
 
-/// Run after its polls, changed, breaks the sentence named.
-fn breaks(broken: Broken, change: impl FnOnce(&mut [u16])) {
-    let mut ws = run_polled(4);
-    change(&mut ws);
-    refused(broken, &ws);
-}
-
-/// The words break the sentence named: every call but open is refused with
-/// 2 and changes nothing.
-fn refused(broken: Broken, ws: &[u16]) {
-    assert_eq!(decode(ws), Err(broken));
-    let mut after = ws.to_vec();
-    assert_eq!(words::book(&mut after, 9, 1, &[0]), (2, 0));
-    assert_eq!(words::poll(&mut after, 3, &[1, 1, 1]), (2, 0));
-    assert_eq!(words::size(&after, 0), (2, 0));
-    assert_eq!(after, ws);
-    assert_eq!(words::open(&mut after, 3, 2, 1, 2), (0, 0));
-    assert_eq!(after, opened(3, 2, 1, 2));
-}
-
-/// The change leaves the words sound.
-fn keeps(change: impl FnOnce(&mut [u16])) {
-    let mut ws = run_polled(4);
-    change(&mut ws);
-    assert!(decode(&ws).is_ok(), "{:?}", decode(&ws));
+/// The rows above are those that the other cases start from.
+#[test]
+fn run_stands_as_described() {
+    let ws = run_polled(4);
+    assert_eq!(ws[..HEADER_WORDS], [5, 3, 2, 1, 2, 4, 0, 0]);
+    let rows = [
+        [0, 0, UNUSED, UNUSED, 1, 3, 0],
+        [1, 7, 0, UNUSED, 2, 2, 4],
+        [2, 7, 0, UNUSED, 2, 2, 1],
+        [3, 9, 1, UNUSED, 1, 0, 2],
+        [4, 10, 1, 2, 2, 1, 3],
+    ];
+    for (b, row) in rows.into_iter().enumerate() {
+        let fields = [
+            NAME + 3,
+            SLOT,
+            PARENT,
+            PARENT + 1,
+            STATE,
+            CONFIDENCE,
+            ORDINAL,
+        ];
+        assert_eq!(fields.map(|field| record_word(&ws, b, field)), row);
+    }
+    assert_eq!(entry_words(&ws, 0), [0, 0, 3, 1]);
+    assert_eq!(entry_words(&ws, 7), [2, 1, 0, 2]);
+    assert_eq!(entry_words(&ws, 9), [3, 3, 0, 1]);
+    assert_eq!(entry_words(&ws, 10), [4, 4, 1, 1]);
 }
 
 #[test]
 fn header() {
-    breaks(Broken::BookingsOutside, |ws| ws[N] = 0);
-    breaks(Broken::BookingsOutside, |ws| ws[N] = 513);
-    breaks(Broken::BookingsOutside, |ws| ws[N] = 65535);
-    breaks(Broken::SettingBad, |ws| ws[K] = 0);
-    breaks(Broken::SettingBad, |ws| ws[K] = 65);
-    breaks(Broken::SettingBad, |ws| ws[A] = 1);
-    breaks(Broken::SettingBad, |ws| ws[A] = 4);
-    breaks(Broken::SettingBad, |ws| ws[BETA1] = 0);
-    breaks(Broken::SettingBad, |ws| ws[BETA1] = 3);
-    breaks(Broken::SettingBad, |ws| ws[BETA2] = 511);
-    breaks(Broken::PollsAboveBookings, |ws| ws[P] = 5);
-    breaks(Broken::HeaderRestNotZero, |ws| ws[REST] = 1);
-    breaks(Broken::HeaderRestNotZero, |ws| ws[REST + 1] = 65535);
+    breaks(2, 0, Broken::BookingsOutside, |ws| ws[N] = 513);
+    breaks(2, 0, Broken::BookingsOutside, |ws| ws[N] = 65535);
+    breaks(2, 0, Broken::SettingBad, |ws| ws[K] = 0);
+    breaks(2, 0, Broken::SettingBad, |ws| ws[K] = 65);
+    breaks(2, 0, Broken::SettingBad, |ws| ws[A] = 1);
+    breaks(2, 0, Broken::SettingBad, |ws| ws[A] = 4);
+    breaks(2, 0, Broken::SettingBad, |ws| ws[BETA1] = 0);
+    breaks(2, 0, Broken::SettingBad, |ws| ws[BETA1] = 3);
+    breaks(2, 0, Broken::SettingBad, |ws| ws[BETA2] = 511);
+    breaks(2, 0, Broken::HeaderRestNotZero, |ws| ws[REST] = 1);
+    breaks(2, 0, Broken::HeaderRestNotZero, |ws| ws[REST + 1] = 65535);
     keeps(|ws| ws[A] = 3);
     keeps(|ws| ws[BETA2] = 510);
+
+    // With no booking at all p has no room either.
+    let none = [
+        (Header, Broken::BookingsOutside),
+        (Header, Broken::PollsAboveBookings),
+    ];
+    breaks_all(2, 0, &none, |ws| ws[N] = 0);
+    let mut ws = run_booked();
+    ws[N] = 0;
+    refused(2, 0, &none, &ws);
+    // More polls than bookings cannot all be held.
+    for polls in [5, 6, 65535] {
+        let above = [
+            (Header, Broken::PollsAboveBookings),
+            (Record(5), Broken::OrdinalMissing),
+        ];
+        breaks_all(2, 0, &above, |ws| ws[P] = polls);
+    }
+    // Unless the genesis holds one, which it must not.
+    let above = [
+        (Header, Broken::PollsAboveBookings),
+        (Record(0), Broken::GenesisOrdinal),
+    ];
+    breaks_all(2, 0, &above, |ws| {
+        ws[P] = 5;
+        ws[record(0) + ORDINAL] = 5;
+    });
 }
 
 #[test]
 fn genesis() {
     for part in 0..4 {
-        breaks(Broken::GenesisName, |ws| ws[record(0) + NAME + part] = 9);
+        breaks(14, 0, Broken::GenesisName, |ws| {
+            ws[record(0) + NAME + part] = 9
+        });
     }
-    breaks(Broken::GenesisSlot, |ws| ws[record(0) + SLOT] = 1);
     for place in 0..4 {
-        breaks(Broken::GenesisParents, |ws| {
+        breaks(14, 0, Broken::GenesisParents, |ws| {
             ws[record(0) + PARENT + place] = 0
         });
     }
     for state in [0, 2, 3] {
-        breaks(Broken::GenesisState, |ws| ws[record(0) + STATE] = state);
+        breaks(14, 0, Broken::GenesisState, |ws| {
+            ws[record(0) + STATE] = state
+        });
     }
-    breaks(Broken::GenesisOrdinal, |ws| ws[record(0) + ORDINAL] = 1);
+    // It leaves slot 0 behind, and slot 1 knows nothing of it.
+    let left = [
+        (Record(0), Broken::GenesisSlot),
+        (Slot(0), Broken::EmptySlotFilled),
+        (Slot(1), Broken::CountNotTrue),
+        (Slot(1), Broken::PreferredElsewhere),
+        (Slot(1), Broken::LastElsewhere),
+    ];
+    breaks_all(14, 0, &left, |ws| ws[record(0) + SLOT] = 1);
     // It moves to slot 1 with its entry.
-    breaks(Broken::GenesisSlot, |ws| {
+    breaks(14, 0, Broken::GenesisSlot, |ws| {
         ws[record(0) + SLOT] = 1;
         move_entry(ws, 0, 1);
     });
+    // Booking 2 holds ordinal 1, and nobody may hold 5.
+    let held = [
+        (Record(0), Broken::GenesisOrdinal),
+        (Record(2), Broken::OrdinalTwice),
+    ];
+    breaks_all(14, 0, &held, |ws| ws[record(0) + ORDINAL] = 1);
+    let above = [
+        (Record(0), Broken::GenesisOrdinal),
+        (Record(0), Broken::OrdinalAbovePolls),
+    ];
+    breaks_all(14, 0, &above, |ws| ws[record(0) + ORDINAL] = 5);
+    // Booking 1 still waits, and the genesis holds the fourth poll.
+    let mut ws = run_polled(3);
+    ws[P] = 4;
+    ws[record(0) + ORDINAL] = 4;
+    refused_by(14, 0, Broken::GenesisOrdinal, &ws);
     // Its confidence is free up to the number of chits, which is three.
     keeps(|ws| ws[record(0) + CONFIDENCE] = 0);
 }
 
 #[test]
 fn names() {
-    breaks(Broken::NameTwice, |ws| ws[record(4) + NAME + 3] = 1);
-    breaks(Broken::NameTwice, |ws| ws[record(4) + NAME + 3] = 0);
+    breaks(14, 4, Broken::NameTwice, |ws| ws[record(4) + NAME + 3] = 1);
+    breaks(14, 4, Broken::NameTwice, |ws| ws[record(4) + NAME + 3] = 0);
     for part in 0..4 {
         keeps(|ws| {
             ws[record(4) + NAME + 3] = 1;
             ws[record(4) + NAME + part] += 8;
         });
     }
-    // The first and the last of a full ledger.
-    let mut ws = chain(512);
-    ws[record(511) + NAME + 3] = 1;
-    refused(Broken::NameTwice, &ws);
+    // Two bookings with their names exchanged.
+    keeps(|ws| {
+        ws[record(1) + NAME + 3] = 4;
+        ws[record(4) + NAME + 3] = 1;
+    });
 }
 
 #[test]
 fn slots_of_records() {
-    breaks(Broken::SlotOutside, |ws| ws[record(3) + SLOT] = 0);
-    breaks(Broken::SlotOutside, |ws| ws[record(3) + SLOT] = 256);
-    breaks(Broken::SlotOutside, |ws| ws[record(3) + SLOT] = 65535);
     // Booking 3 leaves slot 9, whose entry says so, for slot 0 or for none.
-    breaks(Broken::SlotOutside, |ws| {
+    breaks(14, 3, Broken::SlotOutside, |ws| {
         ws[record(3) + SLOT] = 0;
         ws[entry(0) + COUNT] = 2;
         ws[entry(9)..entry(10)].copy_from_slice(&EMPTY_ENTRY);
     });
-    breaks(Broken::SlotOutside, |ws| {
-        ws[record(3) + SLOT] = 256;
-        ws[entry(9)..entry(10)].copy_from_slice(&EMPTY_ENTRY);
-    });
+    for slot in [256, 65535] {
+        breaks(14, 3, Broken::SlotOutside, |ws| {
+            ws[record(3) + SLOT] = slot;
+            ws[entry(9)..entry(10)].copy_from_slice(&EMPTY_ENTRY);
+        });
+        // The same, and the entry doesn't say so.
+        let left = [
+            (Record(3), Broken::SlotOutside),
+            (Slot(9), Broken::EmptySlotFilled),
+        ];
+        breaks_all(14, 3, &left, |ws| ws[record(3) + SLOT] = slot);
+    }
+    let in_slot_0 = [
+        (Record(3), Broken::SlotOutside),
+        (Slot(0), Broken::CountNotTrue),
+        (Slot(9), Broken::EmptySlotFilled),
+    ];
+    breaks_all(14, 3, &in_slot_0, |ws| ws[record(3) + SLOT] = 0);
     keeps(|ws| {
         ws[record(3) + SLOT] = 255;
         move_entry(ws, 9, 255);
@@ -125,42 +210,70 @@ fn move_entry(ws: &mut [u16], from: usize, to: usize) {
 
 #[test]
 fn parents() {
-    breaks(Broken::NoParent, |ws| ws[record(3) + PARENT] = UNUSED);
-    breaks(Broken::GapInParents, |ws| ws[record(4) + PARENT] = UNUSED);
-    breaks(Broken::GapInParents, |ws| ws[record(3) + PARENT + 2] = 0);
-    breaks(Broken::ParentTwice, |ws| ws[record(4) + PARENT + 1] = 1);
-    breaks(Broken::ParentNotLower, |ws| ws[record(4) + PARENT] = 4);
-    breaks(Broken::ParentNotLower, |ws| ws[record(3) + PARENT] = 4);
-    breaks(Broken::ParentNotLower, |ws| ws[record(3) + PARENT] = 65534);
+    breaks(14, 3, Broken::NoParent, |ws| {
+        ws[record(3) + PARENT] = UNUSED
+    });
+    breaks(14, 4, Broken::GapInParents, |ws| {
+        ws[record(4) + PARENT] = UNUSED
+    });
+    breaks(14, 3, Broken::GapInParents, |ws| {
+        ws[record(3) + PARENT + 2] = 0
+    });
+    breaks(14, 4, Broken::ParentTwice, |ws| {
+        ws[record(4) + PARENT + 1] = 1
+    });
+    breaks(14, 4, Broken::ParentNotLower, |ws| {
+        ws[record(4) + PARENT] = 4
+    });
+    for parent in [3, 4, 65534] {
+        breaks(14, 3, Broken::ParentNotLower, |ws| {
+            ws[record(3) + PARENT] = parent
+        });
+    }
     keeps(|ws| ws[record(4) + PARENT] = 3);
     keeps(|ws| ws[record(4) + PARENT + 2] = 0);
+    // Several at once in one record.
+    let far_and_twice = [
+        (Record(4), Broken::GapInParents),
+        (Record(4), Broken::ParentTwice),
+        (Record(4), Broken::ParentNotLower),
+    ];
+    breaks_all(14, 4, &far_and_twice, |ws| {
+        ws[record(4) + PARENT..record(4) + STATE].copy_from_slice(&[UNUSED, 9, UNUSED, 9])
+    });
 }
 
 #[test]
 fn states_and_ordinals() {
-    breaks(Broken::StateOutside, |ws| ws[record(3) + STATE] = 3);
-    breaks(Broken::StateOutside, |ws| ws[record(3) + STATE] = 65535);
-    breaks(Broken::WaitingWithOrdinal, |ws| ws[record(3) + STATE] = 0);
-    breaks(Broken::PolledWithoutOrdinal, |ws| {
-        ws[record(3) + ORDINAL] = 0
+    breaks(14, 3, Broken::StateOutside, |ws| ws[record(3) + STATE] = 3);
+    breaks(14, 3, Broken::StateOutside, |ws| {
+        ws[record(3) + STATE] = 65535
     });
-    breaks(Broken::OrdinalAbovePolls, |ws| ws[record(1) + ORDINAL] = 5);
-    breaks(Broken::OrdinalTwice, |ws| ws[record(1) + ORDINAL] = 1);
-    // The same without a gap in the ordinals: polled without one, polled
-    // beyond p, two holders of one.
+    breaks(14, 3, Broken::WaitingWithOrdinal, |ws| {
+        ws[record(3) + STATE] = 0
+    });
+    // Polled without an ordinal, polled beyond p, two holders of one.
     let mut ws = run_booked();
     ws[record(3) + STATE] = 1;
-    refused(Broken::PolledWithoutOrdinal, &ws);
+    refused_by(14, 3, Broken::PolledWithoutOrdinal, &ws);
     ws[record(3) + ORDINAL] = 1;
-    refused(Broken::OrdinalAbovePolls, &ws);
+    refused_by(14, 3, Broken::OrdinalAbovePolls, &ws);
     let mut ws = run_polled(1);
     ws[record(3) + STATE] = 1;
     ws[record(3) + ORDINAL] = 1;
-    refused(Broken::OrdinalTwice, &ws);
+    refused_by(14, 3, Broken::OrdinalTwice, &ws);
     // A poll that no record holds.
     let mut ws = run_booked();
     ws[P] = 1;
-    refused(Broken::OrdinalMissing, &ws);
+    refused_by(14, 5, Broken::OrdinalMissing, &ws);
+    // A state that is none, and no ordinal with it.
+    let mut ws = run_booked();
+    ws[record(3) + STATE] = 3;
+    let neither = [
+        (Record(3), Broken::StateOutside),
+        (Record(3), Broken::PolledWithoutOrdinal),
+    ];
+    refused(14, 3, &neither, &ws);
     keeps(|ws| {
         // Ordinals 1 and 4 change places.
         ws[record(2) + ORDINAL] = 4;
@@ -172,8 +285,12 @@ fn states_and_ordinals() {
 #[test]
 fn records_from_n_on() {
     for field in 0..RECORD_WORDS {
-        breaks(Broken::UnusedRecordNotZero, |ws| ws[record(5) + field] = 1);
-        breaks(Broken::UnusedRecordNotZero, |ws| {
+        for row in [5, 6, 300, 511] {
+            breaks(14, row, Broken::UnusedRecordNotZero, |ws| {
+                ws[record(row as usize) + field] = 1
+            });
+        }
+        breaks(14, 511, Broken::UnusedRecordNotZero, |ws| {
             ws[record(511) + field] = 65535
         });
     }
@@ -181,31 +298,39 @@ fn records_from_n_on() {
     let mut ws = chain(3);
     ws[N] = 2;
     ws[entry(2)..entry(3)].copy_from_slice(&EMPTY_ENTRY);
-    refused(Broken::UnusedRecordNotZero, &ws);
+    refused_by(14, 2, Broken::UnusedRecordNotZero, &ws);
 }
 
 #[test]
 fn entries() {
     for s in [1, 8, 255] {
         for field in 0..ENTRY_WORDS {
-            breaks(Broken::EmptySlotFilled, |ws| ws[entry(s) + field] = 1);
+            breaks(15, s, Broken::EmptySlotFilled, |ws| {
+                ws[entry(s as usize) + field] = 1
+            });
         }
-        breaks(Broken::EmptySlotFilled, |ws| {
-            ws[entry(s)..entry(s + 1)].fill(0)
+        breaks(15, s, Broken::EmptySlotFilled, |ws| {
+            ws[entry(s as usize)..entry(s as usize + 1)].fill(0)
         });
     }
     for s in [0, 7, 9] {
-        breaks(Broken::CountNotTrue, |ws| ws[entry(s) + COUNT] += 1);
-        breaks(Broken::CountNotTrue, |ws| ws[entry(s) + COUNT] -= 1);
+        let at = entry(s as usize);
+        breaks(15, s, Broken::CountNotTrue, |ws| ws[at + COUNT] += 1);
+        breaks(15, s, Broken::CountNotTrue, |ws| ws[at + COUNT] -= 1);
         for elsewhere in [4, 5, 511, UNUSED] {
-            breaks(Broken::PreferredElsewhere, |ws| {
-                ws[entry(s) + PREFERRED] = elsewhere
+            breaks(15, s, Broken::PreferredElsewhere, |ws| {
+                ws[at + PREFERRED] = elsewhere
             });
-            breaks(Broken::LastElsewhere, |ws| ws[entry(s) + LAST] = elsewhere);
+            breaks(15, s, Broken::LastElsewhere, |ws| ws[at + LAST] = elsewhere);
         }
     }
     // An entry that calls itself empty although the records say otherwise.
-    breaks(Broken::CountNotTrue, |ws| {
+    let emptied = [
+        (Slot(9), Broken::CountNotTrue),
+        (Slot(9), Broken::PreferredElsewhere),
+        (Slot(9), Broken::LastElsewhere),
+    ];
+    breaks_all(15, 9, &emptied, |ws| {
         ws[entry(9)..entry(10)].copy_from_slice(&EMPTY_ENTRY)
     });
     keeps(|ws| ws[entry(7) + PREFERRED] = 1);
@@ -216,24 +341,29 @@ fn entries() {
 #[test]
 fn bounds_by_chits() {
     for b in 0..5 {
-        keeps(|ws| ws[record(b) + CONFIDENCE] = 3);
-        breaks(Broken::ConfidenceAboveChits, |ws| {
-            ws[record(b) + CONFIDENCE] = 4
-        });
+        let at = record(b as usize) + CONFIDENCE;
+        keeps(|ws| ws[at] = 3);
+        breaks(14, b, Broken::ConfidenceAboveChits, |ws| ws[at] = 4);
+        breaks(14, b, Broken::ConfidenceAboveChits, |ws| ws[at] = 65535);
     }
     for s in [0, 7, 9, 10] {
-        keeps(|ws| ws[entry(s) + COUNTER] = 3);
-        breaks(Broken::CounterAboveChits, |ws| ws[entry(s) + COUNTER] = 4);
+        let at = entry(s as usize) + COUNTER;
+        keeps(|ws| ws[at] = 3);
+        breaks(15, s, Broken::CounterAboveChits, |ws| ws[at] = 4);
+        breaks(15, s, Broken::CounterAboveChits, |ws| ws[at] = 65535);
     }
-    // One chit fewer, and the genesis' three are too many.
-    breaks(Broken::ConfidenceAboveChits, |ws| {
-        ws[record(1) + STATE] = 1;
-    });
+    // In a slot without bookings the counter has to be 0, by both sentences
+    // if it is above three.
+    let both = [
+        (Slot(8), Broken::EmptySlotFilled),
+        (Slot(8), Broken::CounterAboveChits),
+    ];
+    breaks_all(15, 8, &both, |ws| ws[entry(8) + COUNTER] = 4);
 }
 
 #[test]
 fn ledgers_at_both_ends_are_sound() {
     for n in [1, 2, 511, 512] {
-        assert!(decode(&chain(n)).is_ok());
+        assert_eq!(judge(&chain(n)), Damage::default());
     }
 }

@@ -7,8 +7,7 @@ use lib.ListN.{length, drop}
 use lib.Seq.{length-take-le}
 use borrow.Author.Needs.{needs}
 use Rattle.rules.specs.Layout.{size}
-use Rattle.rules.specs.IsSound.{isSound}
-use Rattle.line_serve.proofs.Known.{zeros-unsound}
+use Rattle.line_serve.specs.Serve.{Keeps}
 use Rattle.text_program.specs.Program.{zeros, lines}
 use Rattle.text_program.specs.Piece.{wordsAfter}
 use Rattle.text_program.proofs.Program.{zeros-whole, words-over}
@@ -18,7 +17,7 @@ use Rattle.console.proofs.serve_lines.Tie as tie
 
 abbrev Inv-loop : tie.InvT-loop
 Inv-loop w₀ input out₀ known₀ start₀ w out known start =
-    (length w ≡ size) × (length out ≡ gatheredMost) × (known ≡ isSound w) × (wordsAfter zeros (lines input) ≡ wordsAfter w (lines (drop start input)))
+    (length w ≡ size) × (length out ≡ gatheredMost) × Keeps known w × (wordsAfter zeros (lines input) ≡ wordsAfter w (lines (drop start input)))
     × (length w₀ ≡ size)
 
 abbrev μ-loop : tie.MeasureT-loop
@@ -29,7 +28,7 @@ loop-holds c =
     let pre = c .before .before .before .pre in
     let whole = ap length (pre .words) ∙ zeros-whole in
     let after = ap (λ w. wordsAfter w (lines (c .before .before .before .args .input .now))) (sym (pre .words)) in
-    (whole, pre .room, sym (ap isSound (pre .words) ∙ zeros-unsound), after, whole)
+    (whole, pre .room, pre .words, after, whole)
 
 serve-piece-requires : tie.Need-serve-piece-requires Inv-loop μ-loop
 serve-piece-requires c κs =

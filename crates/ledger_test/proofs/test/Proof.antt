@@ -1,6 +1,6 @@
--- The two tests in their order decide.
+-- The length is tested first; what is left is the damage.
 use borrow.Author.Needs.{needs}
-use borrow.Author.Tests.{eq-eqb, ne-eqb}
+use borrow.Author.Tests.{ne-eqb}
 use Rattle.rules.specs.Calls.{testOf}
 use Rattle.ledger_test.proofs.test.Statement.{statement}
 use Rattle.ledger_test.proofs.test.Tie as tie
@@ -9,16 +9,11 @@ wrong-length : tie.Need-returns
 unfolding testOf
 wrong-length c = simp (ne-eqb _ _ (c .if1 .taken))
 
-is-sound-requires : tie.Need-is-sound-requires
-is-sound-requires c κs = search needs
+damage-requires : tie.Need-damage-requires
+damage-requires c κs = search needs
 
-fine : tie.Need-returns-2
-unfolding testOf
-fine c = simp (eq-eqb _ _ (c .before .before .if1 .left), ← c .before .is-sound .ensures, c .if2 .taken)
-
-not-sound : tie.Need-returns-3
-unfolding testOf
-not-sound c = simp (eq-eqb _ _ (c .before .before .if1 .left), ← c .before .is-sound .ensures, c .if2 .left)
+returns : tie.Need-returns-2
+returns c = search needs
 
 pub test-spec : {M : Type 1} → statement M
-test-spec = tie.close (tie.spec wrong-length is-sound-requires fine not-sound)
+test-spec = tie.close (tie.spec wrong-length damage-requires returns)

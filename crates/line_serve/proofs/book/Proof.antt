@@ -1,12 +1,12 @@
--- On a workspace that is known to be sound the call is that of a ledger; on any other every word stays.
-use mathlib.Core.Path.{sym, _∙_}
+-- On a workspace that is known to be a ledger the call is that of a ledger; on words that are all zero every one stays.
+use mathlib.Core.Path.{sym}
 use borrow.Author.Needs.{needs}
-use Rattle.line_serve.proofs.Known.{known-ledger, unsound-book}
+use Rattle.line_serve.proofs.Known.{known-ledger, unopened-book}
 use Rattle.line_serve.proofs.book.Statement.{statement}
 use Rattle.line_serve.proofs.book.Tie as tie
 
 book-requires : tie.Need-book-requires
-book-requires c κs = let S = c .before .before .before .before in known-ledger _ _ (S .pre .0) (S .pre .1) (c .before .if1 .taken)
+book-requires c κs = let S = c .before .before .before .before in known-ledger _ (S .args .known) (S .pre) (c .before .if1 .taken)
 
 same-length : tie.Need-same-length
 same-length c = search needs
@@ -14,8 +14,8 @@ same-length c = search needs
 returns : tie.Need-returns
 returns c = search needs
 
-unsound : tie.Need-returns-2
-unsound c = let S = c .before .before .before in sym (unsound-book _ (S .pre .0) (sym (S .pre .1) ∙ c .if1 .left) _ _ _)
+unopened : tie.Need-returns-2
+unopened c = let S = c .before .before .before in sym (unopened-book _ (S .args .known) (S .pre) (c .if1 .left) _ _ _)
 
 pub book-spec : {M : Type 1} → statement M
-book-spec = tie.close (tie.spec book-requires same-length returns unsound)
+book-spec = tie.close (tie.spec book-requires same-length returns unopened)

@@ -1,12 +1,10 @@
--- A good setting opens the ledger, which is then known to be sound; any other is refused, and every word stays.
-use mathlib.Core.Path.{sym, ap, _∙_}
+-- A good setting opens the ledger, and that it is one is known then; any other is refused, and every word stays.
+use mathlib.Core.Path.{sym, ap, subst, _∙_}
 use borrow.Author.Needs.{needs}
 use Rattle.terms.specs.Answers.{outcome, done}
-use Rattle.rules.specs.IsSound.{isSound}
-use Rattle.rule_laws.proofs.Good.{isGood→Good}
-use Rattle.rule_laws.proofs.Opened.{opened-isSound}
+use Rattle.rules.specs.Sound.{Ledger}
 use Rattle.text_put.proofs.Puts.{put-none}
-use Rattle.line_serve.proofs.Known.{open-good, open-bad}
+use Rattle.line_serve.proofs.Known.{open-good, open-bad, open-keeps}
 use Rattle.line_serve.proofs.Serving.{serves-called}
 use Rattle.line_serve.proofs.serve_open.Statement.{statement}
 use Rattle.line_serve.proofs.serve_open.Tie as tie
@@ -30,7 +28,7 @@ taken c =
     let S = I .before .before .before .before in
     let good = sym (I .before .is-good .ensures) ∙ I .if1 .taken in
     serves-called done (ap (outcome done) (W .write-open .ensures) ∙ sym (open-good (S .args .w .now) (S .pre .whole) (S .args .s) good)) (put-none _ _)
-    (sym (ap isSound (W .write-open .ensures) ∙ opened-isSound (S .args .s) (isGood→Good (S .args .s) good)))
+    (subst Ledger (sym (W .write-open .ensures)) (open-keeps (S .args .s) good))
 
 same-length-2 : tie.Need-same-length-2
 same-length-2 c = search needs

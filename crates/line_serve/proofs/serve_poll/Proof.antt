@@ -1,8 +1,8 @@
--- The answer is printed as it is; whether the words are sound is as before.
-use mathlib.Core.Path.{sym, ap, _∙_}
+-- The answer is printed as it is; what the words are known to be is as before.
+use mathlib.Core.Path.{sym, subst}
 use borrow.Author.Needs.{needs}
-use Rattle.rules.specs.IsSound.{isSound}
-use Rattle.line_serve.proofs.Known.{poll-sound}
+use Rattle.line_serve.specs.Serve.{Keeps}
+use Rattle.line_serve.proofs.Known.{poll-keeps}
 use Rattle.line_serve.proofs.Serving.{serves-called}
 use Rattle.line_serve.proofs.serve_poll.Statement.{statement}
 use Rattle.line_serve.proofs.serve_poll.Tie as tie
@@ -24,7 +24,7 @@ returns c =
     let B = c .before .before .before .before .before .before in
     let S = B .before .before .before .before .before in
     serves-called (B .poll .result) (B .poll .ensures) (c .before .before .put-call .ensures)
-    (S .pre .told ∙ poll-sound (S .args .w .now) (S .pre .whole) (S .args .name) (S .args .votes .now) ∙ ap (λ o. isSound (o .words)) (sym (B .poll .ensures)))
+    (subst (λ o. Keeps (S .args .known) (o .words)) (sym (B .poll .ensures)) (poll-keeps (S .args .w .now) (S .args .known) (S .pre .told) (S .args .name) (S .args .votes .now)))
 
 pub serve-poll-spec : {M : Type 1} → statement M
 serve-poll-spec =

@@ -1,10 +1,10 @@
--- The table starts with zeros and ends with every slot counted; no entry breaks a rule where the first that does is past the end.
+-- The table starts with zeros and ends with every slot counted.
 use mathlib.Core.Path.{sym}
 use borrow.Author.Needs.{needs}
-use Rattle.rules.specs.IsSound.{slotsGood}
+use Rattle.rules.specs.IsSound.{badSlot}
 use Rattle.sound.proofs.Counts.{heldBelow-zero}
-use Rattle.sound.proofs.entries.slots_good.Statement.{statement}
-use Rattle.sound.proofs.entries.slots_good.Tie as tie
+use Rattle.sound.proofs.entries.bad_slot.Statement.{statement}
+use Rattle.sound.proofs.entries.bad_slot.Tie as tie
 
 slice-aggregate-count-all : tie.Need-slice-aggregate-count-all
 slice-aggregate-count-all c = search needs
@@ -21,11 +21,11 @@ bad-entry-requires : tie.Need-bad-entry-requires
 bad-entry-requires c κs = search needs
 
 returns : tie.Need-returns
-unfolding slotsGood
-returns c = rw (c .bad-entry .ensures)
+unfolding badSlot
+returns c = c .bad-entry .ensures
 
-pub slots-good-spec : {M : Type 1} → statement M
-slots-good-spec =
+pub bad-slot-spec : {M : Type 1} → statement M
+bad-slot-spec =
     tie.close
     (tie.spec
     slice-aggregate-count-all

@@ -1,0 +1,136 @@
+-- The value with 14 and 15 is the lowest row that breaks a rule: the test searches the rows from 0 on, and nothing after the test gives these numbers.
+-- Rests on specs/Damage.antt and on the laws of rows and of searches. Assumes nothing.
+use mathlib.Core.Path.{_≡_, refl, sym, _∙_}
+use mathlib.Core.Bool.{Bool, true, false, not, cond, true≢false}
+use mathlib.Core.List.{List}
+use Prim.Native.Nat.{ℕ, _<_}
+use native.Mathlib.Omega.{arith}
+use lib.IntN.{ℤ}
+use lib.ListN.{length}
+use lib.Dec.{eqb, leb}
+use borrow.Author.Tests.{leb-true, eqb-false, not-true, not-false}
+use Rattle.loops.specs.Search.{first}
+use Rattle.loops.proofs.Search.{first-le, first-hit, first-before}
+use Rattle.terms.specs.declared.setting.Setting.{Setting}
+use Rattle.terms.specs.declared.answer.Found.{Found}
+use Rattle.terms.specs.declared.answer.Found.the-variants.{At, Absent}
+use Rattle.terms.specs.declared.answer.Refusal.the-variants.{WrongLength, DamagedHeader, DamagedRecord, DamagedSlot}
+use Rattle.terms.specs.declared.answer.Answer.{Answer}
+use Rattle.terms.specs.declared.answer.Answer.the-variants.{Refused}
+use Rattle.terms.specs.Answers.{number, value, done}
+use Rattle.rules.specs.Layout.{size, slots}
+use Rattle.rules.specs.IsSound.{headerGood, recordRow, recordRows, badRecord, slotGood, badSlot}
+use Rattle.rules.specs.RowRules.{RecordRules, SlotRules}
+use Rattle.rules.specs.Open.{opened}
+use Rattle.rules.specs.Book.{lookUp, numberOf, booked}
+use Rattle.rules.specs.Poll.{polled}
+use Rattle.rules.specs.Readings.{readingOf}
+use Rattle.rules.specs.Listing.{listCall}
+use Rattle.rules.specs.Calls.{openAnswer, openCall, testOf, tested, bookAnswer, bookCall, askedOf, pollAnswer, pollCall, readingCall}
+use Rattle.rule_laws.proofs.RowRules.{recordRow→Rules, Rules→recordRow, slotGood→Rules, Rules→slotGood}
+use Rattle.rule_laws.proofs.Calls.{leaves-answer}
+use Rattle.rule_laws.proofs.Tested.{tested-in-order}
+use Rattle.promises.specs.Run.{Call, Open, Book, Poll, Ask, outcomeOf}
+use Rattle.promises.specs.Damage.{Lowest, Names, DamageNamed}
+
+-- ---- a search over rows finds the lowest that breaks a rule
+
+lowest : (good : ℕ → Bool) {Rules : ℕ → Type 0} (end : ℕ) → ((i : ℕ) → good i ≡ true → Rules i) → ((i : ℕ) → Rules i → good i ≡ true)
+    → not (eqb (first (λ i. not (good i)) end) end) ≡ true → Lowest Rules end (first (λ i. not (good i)) end)
+lowest good end to from e =
+    let bad : ℕ → Bool = λ i. not (good i) in
+    let within : first bad end < end = omega (arith, first-le bad end, eqb-false (first bad end) end (not-true _ e)) in
+    record {
+      within = within;
+      breaks = λ rules. true≢false (sym (from (first bad end) rules) ∙ not-true _ (first-hit bad end within));
+      kept = λ j l. to j (not-false (good j) (first-before bad end j l));
+    }
+
+record-lowest : (w : List ℕ) → not (eqb (badRecord w) recordRows) ≡ true → Lowest (RecordRules w) recordRows (badRecord w)
+unfolding badRecord
+record-lowest w = lowest (recordRow w) recordRows (recordRow→Rules w) (Rules→recordRow w)
+
+slot-lowest : (w : List ℕ) → not (eqb (badSlot w) slots) ≡ true → Lowest (SlotRules w) slots (badSlot w)
+unfolding badSlot
+slot-lowest w = lowest (slotGood w) slots (slotGood→Rules w) (Rules→slotGood w)
+
+-- ---- numbers up to 13 name nothing
+
+abbrev isSmall : Answer → Bool
+isSmall a = leb (number a) 13
+
+small-cond : (t : Bool) (a b : Answer) → isSmall (cond t a b) ≡ cond t (isSmall a) (isSmall b)
+small-cond true a b = refl
+small-cond false a b = refl
+
+both-true : (t : Bool) → cond t true true ≡ true
+both-true true = refl
+both-true false = refl
+
+small-asked : (f : Found) (rest : ℕ → Answer) → ((i : ℕ) → isSmall (rest i) ≡ true) → isSmall (askedOf f rest) ≡ true
+small-asked (At i) rest small = small i
+small-asked Absent rest small = refl
+
+module _ (w : List ℕ) where
+  small-names : (a : Answer) → isSmall a ≡ true → Names w (number a) (value a)
+  small-names a e =
+      record { damagedRecord = λ q. absurd (omega (arith, leb-true (number a) 13 e)); damagedSlot = λ q. absurd (omega (arith, leb-true (number a) 13 e)) }
+
+  -- what begins with the test
+  tested-names : (rest : Answer) → isSmall rest ≡ true → Names w (number (tested testOf w rest)) (value (tested testOf w rest))
+  tested-names rest small =
+      rw (tested-in-order w rest)
+      (go (not (eqb (length w) size)) (not (headerGood w)) (not (eqb (badRecord w) recordRows)) (not (eqb (badSlot w) slots)) (record-lowest w) (slot-lowest w))
+    where
+      answer : (long header records entries : Bool) → Answer
+      answer long header records entries =
+          cond long (Refused WrongLength)
+          (cond header (Refused DamagedHeader)
+          (cond records (Refused (DamagedRecord (badRecord w)))
+          (cond entries (Refused (DamagedSlot (badSlot w)))
+          rest)))
+
+      go : (long header records entries : Bool)
+          → (records ≡ true → Lowest (RecordRules w) recordRows (badRecord w))
+          → (entries ≡ true → Lowest (SlotRules w) slots (badSlot w))
+          → Names w (number (answer long header records entries)) (value (answer long header records entries))
+      go true header records entries broken bad = small-names (Refused WrongLength) refl
+      go false true records entries broken bad = small-names (Refused DamagedHeader) refl
+      go false false true entries broken bad = record { damagedRecord = λ q. (badRecord w, refl, broken refl); damagedSlot = λ q. absurd (omega arith) }
+      go false false false true broken bad = record { damagedRecord = λ q. absurd (omega arith); damagedSlot = λ q. (badSlot w, refl, bad refl) }
+      go false false false false broken bad = small-names rest small
+
+-- ---- the calls
+
+open-names : (w : List ℕ) (s : Setting) → Names w (number (openCall w s .answer)) (value (openCall w s .answer))
+unfolding openCall
+open-names w s = rw (leaves-answer (openAnswer w s) w (opened s)) (small-names w (openAnswer w s) (simp (small-cond, both-true)))
+
+book-names : (w : List ℕ) (name slot : ℕ) (parents : List ℕ)
+    → Names w (number (bookCall w name slot parents .answer)) (value (bookCall w name slot parents .answer))
+unfolding bookCall
+book-names w name slot parents =
+    rw (leaves-answer (bookAnswer testOf w name slot parents) w (booked w name slot parents)) (tested-names w _ (simp (small-cond, both-true)))
+
+poll-names : (w : List ℕ) (name : ℕ) (votes : List ℕ) → Names w (number (pollCall w name votes .answer)) (value (pollCall w name votes .answer))
+unfolding pollCall
+poll-names w name votes =
+    rw (leaves-answer (pollAnswer testOf w name votes) w (polled w (numberOf (lookUp w name)) votes))
+    (tested-names w _ (small-asked (lookUp w name) _ (λ i. simp (small-cond, both-true))))
+
+reading-names : (f : ℕ → ℤ) (w : List ℕ) (name : ℕ) → Names w (number (readingCall f w name)) (value (readingCall f w name))
+reading-names f w name = tested-names w _ (small-asked (lookUp w name) _ (λ i. refl))
+
+calls-name : (c : Call) (w : List ℕ) → Names w (number (outcomeOf c w .answer)) (value (outcomeOf c w .answer))
+unfolding outcomeOf
+calls-name (Open s) w = open-names w s
+calls-name (Book name slot parents) w = book-names w name slot parents
+calls-name (Poll name votes) w = poll-names w name votes
+calls-name (Ask what name) w = reading-names (readingOf what w) w name
+
+list-names : (w : List ℕ) → Names w (number (listCall w)) (value (listCall w))
+unfolding listCall
+list-names w = tested-names w done refl
+
+pub damage-named : DamageNamed
+damage-named = record { calls = calls-name; list = list-names }

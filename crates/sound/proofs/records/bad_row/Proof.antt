@@ -1,0 +1,101 @@
+-- A record below n that is bad is the lowest row. Where none is, the marks are all the ordinals held, and tell whether row n is, before the rest.
+use mathlib.Core.Path.{_≡_, sym, ap, _∙_}
+use mathlib.Core.Bool.{not}
+use mathlib.Core.List.{List}
+use Prim.Native.Nat.{ℕ, _≤_}
+use native.Mathlib.Omega.{arith}
+use borrow.Author.Needs.{needs}
+use Rattle.loops.specs.Search.{first}
+use Rattle.rules.specs.Layout.{mostBookings, bookings}
+use Rattle.rules.specs.IsSound.{recordGood, ordinalsHeld}
+use Rattle.name_filter.proofs.Names.{namesBelow-zero}
+use Rattle.sound.proofs.Marks.{ordinalsBelow-zero, marked-held}
+use Rattle.sound.proofs.RecordRows.{lowestBelow, damaged-below, ordinal-missing, damaged-rest}
+use Rattle.sound.proofs.records.bad_row.Statement.{statement}
+use Rattle.sound.proofs.records.bad_row.Tie as tie
+
+header-requires : tie.Need-header-requires
+header-requires c κs = search needs
+
+wide-requires : tie.Need-wide-requires
+wide-requires c κs = search needs
+
+slice-aggregate-marks : tie.Need-slice-aggregate-bad-record
+slice-aggregate-marks c = search needs
+
+slice-aggregate-filter : tie.Need-slice-aggregate-bad-record-2
+slice-aggregate-filter c = search needs
+
+bad-record-requires : tie.Need-bad-record-requires
+bad-record-requires c κs =
+    let S = c .before .before .before .before .before in
+    let w = S .args .w .now in
+    (S .pre .0, record { whole = S .pre .0 .whole; within = omega arith; polled = S .pre .1; lower = sym (ordinalsBelow-zero w) }, S .pre .2, sym (namesBelow-zero w))
+
+slice-aggregate-all-marked : tie.Need-slice-aggregate-all-marked
+slice-aggregate-all-marked c = search needs
+
+all-marked-requires : tie.Need-all-marked-requires
+all-marked-requires c κs = search needs
+
+stray-record-requires : tie.Need-stray-record-requires
+stray-record-requires c κs = search needs
+
+-- what the first pass found, and what it left marked
+module _ (B : tie.After-bad-record) where
+  abbrev S : tie.Start
+  S = B .before .before .before .before .before .before
+
+  abbrev w : List ℕ
+  w = S .args .w .now
+
+  fits : bookings w ≤ mostBookings
+  fits = omega (arith, S .pre .0 .counts, S .pre .0 .fits)
+
+  found : B .bad-record .result ≡ lowestBelow w
+  found = B .bad-record .ensures .0 ∙ ap (first (λ i. not (recordGood w i))) (S .pre .0 .counts)
+
+some-bad : tie.Need-returns
+some-bad c =
+    let B = c .before .before .before in
+    found B ∙ sym (damaged-below (w B) (fits B) (λ q. c .if1 .taken (found B ∙ q ∙ sym (S B .pre .0 .counts))))
+
+-- where none below n is bad, the marks tell which ordinals are held
+module _ (c : tie.After-all-marked) where
+  abbrev B : tie.After-bad-record
+  B = c .before .before .before .before .before
+
+  none-below : lowestBelow (w B) ≡ bookings (w B)
+  none-below = sym (found B) ∙ c .before .before .if1 .left ∙ S B .pre .0 .counts
+
+  held : c .all-marked .result ≡ ordinalsHeld (w B)
+  held =
+      let A = B .before .before .before in
+      c .all-marked .ensures
+      ∙ marked-held (w B) _ _ (B .bad-record .result) (S B .pre .1) (A .wide .ensures .0 ∙ A .before .header .ensures) (B .bad-record .ensures .1) (c .before .before .if1 .left ∙ S B .pre .0 .counts)
+
+none-missing : tie.Need-returns-2
+none-missing c =
+    let M = c .before .before in
+    c .stray-record .ensures ∙ sym (damaged-rest (w (B M)) (fits (B M)) (none-below M) (sym (held M) ∙ c .before .if2 .taken))
+
+some-missing : tie.Need-returns-3
+some-missing c =
+    let M = c .before in
+    S (B M) .pre .0 .counts ∙ sym (ordinal-missing (w (B M)) (fits (B M)) (none-below M) (sym (held M) ∙ c .if2 .left))
+
+pub bad-row-spec : {M : Type 1} → statement M
+bad-row-spec =
+    tie.close
+    (tie.spec
+    header-requires
+    wide-requires
+    slice-aggregate-marks
+    slice-aggregate-filter
+    bad-record-requires
+    some-bad
+    slice-aggregate-all-marked
+    all-marked-requires
+    stray-record-requires
+    none-missing
+    some-missing)
