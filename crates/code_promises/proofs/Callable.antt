@@ -1,5 +1,5 @@
 -- What the law gives for a call is an outcome that the contract of its function allows. Assumes nothing.
-use mathlib.Core.Path.{_≡_, refl}
+use mathlib.Core.Path.{refl}
 use mathlib.Core.List.{List, []}
 use Prim.Native.Nat.{ℕ}
 use lib.IntN.{pos}
@@ -11,7 +11,7 @@ use Rattle.terms.specs.declared.answer.Reading.the-variants.{Query, Accepted, L
 use Rattle.terms.specs.declared.answer.Answer.{Answer}
 use Rattle.terms.specs.Answers.{Outcome, number, value}
 use Rattle.rules.specs.Calls.{openCall, bookCall, pollCall, queryCall, acceptedCall, leadCall, confidenceCall, sizeCall}
-use Rattle.promises.specs.Run.{Call, Open, Book, Poll, Ask}
+use Rattle.promises.specs.Run.{Open, Book, Poll, Ask}
 use Rattle.station.specs.Returned.{Returned, Handed}
 use Rattle.code_promises.specs.Contract.{contractOf, Allowed, endedBy}
 use Rattle.code_promises.specs.OfCode.{Makes, CodeCallable}

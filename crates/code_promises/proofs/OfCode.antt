@@ -12,7 +12,7 @@ use Rattle.rules.specs.Calls.{openCall, acceptedCall}
 use Rattle.rule_laws.proofs.Calls.{number-refused}
 use Rattle.promises.specs.Run.{Call, Open, Book, Poll, Ask, outcomeOf, isTaken, History, fresh, historyAfter}
 use Rattle.promises.specs.Acceptance.{AcceptedOnce, AcceptedCallOnce}
-use Rattle.promises.specs.Damage.{Names}
+use Rattle.promises.specs.Damage.{NamesDamage}
 use Rattle.promises.specs.Refusals.{RefusedKeeps}
 use Rattle.promises.proofs.Acceptance.{accepted-once, accepted-call-once}
 use Rattle.promises.proofs.Refusals.{refused-keeps, refused-listed}
@@ -84,8 +84,8 @@ pub code-names-damage : CodeNamesDamage function
 unfolding CodeNamesDamage
 code-names-damage d m =
     let told = gave d m .told in
-    subst (λ n. Names (d .before) n (d .value)) (sym (told .numbered))
-    (subst (Names (d .before) (number (due d .answer))) (sym (told .valued)) (damage-named .calls (d .call) (d .before)))
+    subst (λ n. NamesDamage (d .before) n (d .value)) (sym (told .numbered))
+    (subst (NamesDamage (d .before) (number (due d .answer))) (sym (told .valued)) (damage-named .calls (d .call) (d .before)))
 
 -- ---- demands 2 and 3
 

@@ -15,7 +15,7 @@ use Rattle.rules.specs.Readings.{acceptedOf}
 use Rattle.rules.specs.Sound.{Ledger}
 use Rattle.promises.specs.Run.{Call, Open, Book, Poll, Ask, outcomeOf, History, fresh, historyAfter}
 use Rattle.promises.specs.Refusals.{OpenListed, BookListed, PollListed, ReadingListed}
-use Rattle.promises.specs.Damage.{Names}
+use Rattle.promises.specs.Damage.{NamesDamage}
 use Rattle.promises.specs.Confidence.{Counted, sizes}
 use Rattle.station.specs.Returned.{Handed}
 use Rattle.code_promises.specs.Contract.{Contract, Unasked, Allowed}
@@ -95,7 +95,7 @@ module _ {Name : Type 0} (function : Name → Function) where
 
   -- with 14 and 15 the value is the lowest number of a record, or slot, that breaks a rule
   unfoldable pub CodeNamesDamage : Type 0
-  CodeNamesDamage = (d : Done) → Made d → Names (d .before) (d .number) (d .value)
+  CodeNamesDamage = (d : Done) → Made d → NamesDamage (d .before) (d .number) (d .value)
 
   -- a taken answer of 1 to the question whether booking i of the words w is accepted
   pub record Accepts (w : List ℕ) (i : ℕ) : Type 0 where

@@ -1,8 +1,9 @@
 -- What the program keeps is known from one call to the next: only a taken opening changes it. On words that are all zero every call but open gives 2.
-use mathlib.Core.Path.{_≡_, refl, sym, ap, _∙_}
+use mathlib.Core.Path.{_≡_, refl, sym, ap, subst, _∙_}
 use mathlib.Core.Bool.{Bool, true, false, true≢false, false≢true}
 use mathlib.Core.List.{List}
 use Prim.Native.Nat.{ℕ}
+use native.Mathlib.Omega.{arith}
 use lib.ListN.{length, replicate, length-replicate}
 use borrow.Author.Tests.{eq-eqb}
 use Rattle.terms.specs.declared.setting.Setting.{Setting}
@@ -19,7 +20,7 @@ use Rattle.rules.specs.Sound.{Ledger}
 use Rattle.rules.specs.Calls.{testOf, tested, openCall, bookCall, pollCall}
 use Rattle.rule_laws.proofs.Good.{isGood→Good}
 use Rattle.rule_laws.proofs.Opened.{opened-ledger}
-use Rattle.rule_laws.proofs.Tested.{stop-tested, stop-leaves, test-header}
+use Rattle.rule_laws.proofs.Tested.{stop-tested, stop-leaves, damage-header, test-long}
 use Rattle.promises.specs.Run.{Book, Poll, outcomeOf}
 use Rattle.promises.specs.Soundness.{SoundKept}
 use Rattle.promises.proofs.Kept.{sound-kept}
@@ -33,11 +34,20 @@ known-zeros : (w : List ℕ) (known : Bool) → Keeps known w → known ≡ fals
 known-zeros w true k e = absurd (true≢false e)
 known-zeros w false k e = k
 
--- ---- words that are all zero: n is 0, which breaks a header rule
+-- ---- words that are all zero: n is 0, which breaks a header rule. So what is known of words is one Bool, and a contract that says it settles it
+
+zeros-none : Ledger (replicate size 0) → ⊥
+zeros-none ledger = omega (arith, ledger .sound .bookingsLeast)
+
+pub keeps-one : (w : List ℕ) (a b : Bool) → Keeps a w → Keeps b w → a ≡ b
+keeps-one w true true k l = refl
+keeps-one w true false k l = absurd (zeros-none (subst Ledger l k))
+keeps-one w false true k l = absurd (zeros-none (subst Ledger k l))
+keeps-one w false false k l = refl
 
 zeros-stop : testOf (replicate size 0) ≡ Stop DamagedHeader
 unfolding headerGood
-zeros-stop = sym (test-header (replicate size 0) (length-replicate {A = ℕ} size 0) refl)
+zeros-stop = test-long (replicate size 0) (length-replicate {A = ℕ} size 0) ∙ sym (damage-header (replicate size 0) refl)
 
 pub unopened-stop : (w : List ℕ) (known : Bool) → Keeps known w → known ≡ false → testOf w ≡ Stop DamagedHeader
 unopened-stop w known k e = ap testOf (known-zeros w known k e) ∙ zeros-stop

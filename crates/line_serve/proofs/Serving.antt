@@ -1,6 +1,6 @@
 -- A contract met: a call's words and answer, printed, are the effect of its command; a line has the effect of what it says, and what the words are stays known.
 use mathlib.Core.Path.{_≡_, refl, sym, ap, subst, _∙_}
-use mathlib.Core.Bool.{Bool, true, false}
+use mathlib.Core.Bool.{Bool, true, false, _||_}
 use mathlib.Core.List.{List}
 use Prim.Native.Nat.{ℕ, _≤_}
 use native.Mathlib.Omega.{arith}
@@ -27,7 +27,7 @@ use Rattle.line_parse.proofs.Counts.{take-stored}
 use Rattle.text_listing.specs.Listed.{listPrints, listShows}
 use Rattle.text_listing.proofs.Rows.{list-length}
 use Rattle.line_serve.specs.declared.Served.{Served}
-use Rattle.line_serve.specs.Serve.{Effect, called, asked, listed, commandDoes, served, Keeps, Serves}
+use Rattle.line_serve.specs.Serve.{Effect, called, asked, listed, commandDoes, commandOpens, opens, served, Keeps, Serves}
 use Rattle.line_serve.proofs.Known.{unopened-tested, book-keeps, poll-keeps, open-keeps, open-good, open-bad}
 use Rattle.line_serve.proofs.Short.{call-length, reading-length, refusal-length}
 
@@ -83,33 +83,29 @@ served-does w line c e = ap (λ x. commandDoes x ((lineSays line) .parents) ((li
 
 -- ---- what the words are after a line
 
--- which of the two they are now
-pub record Kept (w : List ℕ) : Type 0 where
-  pub opened : Bool
-  pub keeps : Keeps opened w
-
-open-kept : (w : List ℕ) (s : Setting) → length w ≡ size → Kept w → Kept (openCall w s .words)
-open-kept w s h k = go (isGood s) refl
-  where
-    go : (good : Bool) → isGood s ≡ good → Kept (openCall w s .words)
-    go true g = record { opened = true; keeps = subst (λ o. Ledger (o .words)) (sym (open-good w h s g)) (open-keeps s g) }
-    go false g = subst (λ o. Kept (o .words)) (sym (open-bad w h s g)) k
-
 kept-length : (w : List ℕ) (opened : Bool) → Keeps opened w → length w ≡ size
 kept-length w true k = k .whole
 kept-length w false k = ap length k ∙ length-replicate {A = ℕ} size 0
 
-command-kept : (c : Command) (parents votes w : List ℕ) → Kept w → Kept (commandDoes c parents votes w .words)
-command-kept (Open s) parents votes w k = open-kept w s (kept-length w (k .opened) (k .keeps)) k
-command-kept (Book name slot count) parents votes w k = record { opened = k .opened; keeps = book-keeps w (k .opened) (k .keeps) name slot parents }
-command-kept (Poll name count) parents votes w k = record { opened = k .opened; keeps = poll-keeps w (k .opened) (k .keeps) name votes }
-command-kept (Read what name) parents votes w k = k
-command-kept ListAll parents votes w k = k
-command-kept Bad parents votes w k = k
+open-kept : (w : List ℕ) (s : Setting) (opened : Bool) → length w ≡ size → Keeps opened w → Keeps (isGood s || opened) (openCall w s .words)
+open-kept w s opened h k = go (isGood s) refl
+  where
+    go : (good : Bool) → isGood s ≡ good → Keeps (good || opened) (openCall w s .words)
+    go true g = subst (λ o. Ledger (o .words)) (sym (open-good w h s g)) (open-keeps s g)
+    go false g = subst (λ o. Keeps opened (o .words)) (sym (open-bad w h s g)) k
 
-pub served-kept : (w line : List ℕ) → Kept w → Kept (served w line .words)
+command-kept : (c : Command) (parents votes w : List ℕ) (opened : Bool) → Keeps opened w → Keeps (commandOpens c || opened) (commandDoes c parents votes w .words)
+command-kept (Open s) parents votes w opened k = open-kept w s opened (kept-length w opened k) k
+command-kept (Book name slot count) parents votes w opened k = book-keeps w opened k name slot parents
+command-kept (Poll name count) parents votes w opened k = poll-keeps w opened k name votes
+command-kept (Read what name) parents votes w opened k = k
+command-kept ListAll parents votes w opened k = k
+command-kept Bad parents votes w opened k = k
+
+-- they are a ledger from a taken opening on, and stay what they were otherwise
+pub served-kept : (w line : List ℕ) (opened : Bool) → Keeps opened w → Keeps (opens line || opened) (served w line .words)
 unfolding served
-served-kept w line k = command-kept ((lineSays line) .command) ((lineSays line) .parents) ((lineSays line) .votes) w k
+served-kept w line opened k = command-kept ((lineSays line) .command) ((lineSays line) .parents) ((lineSays line) .votes) w opened k
 
 -- ---- the lists of a line stand at the start of their buffers
 

@@ -6,6 +6,7 @@ use mathlib.Core.List.{List}
 use lib.ListN.{length, replicate}
 use Rattle.terms.specs.declared.answer.Answer.{Answer}
 use Rattle.terms.specs.Answers.{Outcome}
+use Rattle.terms.specs.Setting.{isGood}
 use Rattle.rules.specs.Layout.{size}
 use Rattle.rules.specs.Sound.{Ledger}
 use Rattle.rules.specs.Calls.{openCall, bookCall, pollCall, readCall}
@@ -58,6 +59,18 @@ served w line = saidDoes (lineSays line) w
 abbrev pub Keeps : (opened : Bool) → List ℕ → Type 0
 Keeps true w = Ledger w
 Keeps false w = w ≡ replicate size 0
+
+-- the line is an opening that is taken on words of the right length
+abbrev pub commandOpens : Command → Bool
+commandOpens (Open s) = isGood s
+commandOpens (Book name slot count) = false
+commandOpens (Poll name count) = false
+commandOpens (Read what name) = false
+commandOpens ListAll = false
+commandOpens Bad = false
+
+abbrev pub opens : List ℕ → Bool
+opens line = commandOpens (lineSays line .command)
 
 -- which of them the words are is known, and there is room for the longest that a line prints
 pub record Ready (w : List ℕ) (known : Bool) (out : List ℕ) (at : ℕ) : Type 0 where

@@ -1,16 +1,17 @@
 -- The value with 14 and 15 is the lowest row that breaks a rule: the test searches the rows from 0 on, and nothing after the test gives these numbers.
 -- Rests on specs/Damage.antt and on the laws of rows and of searches. Assumes nothing.
 use mathlib.Core.Path.{_≡_, refl, sym, _∙_}
-use mathlib.Core.Bool.{Bool, true, false, not, cond, true≢false}
+use mathlib.Core.Bool.{Bool, true, false, not, _&&_, cond, true≢false}
 use mathlib.Core.List.{List}
 use Prim.Native.Nat.{ℕ, _<_}
 use native.Mathlib.Omega.{arith}
 use lib.IntN.{ℤ}
 use lib.ListN.{length}
-use lib.Dec.{eqb, leb}
-use borrow.Author.Tests.{leb-true, eqb-false, not-true, not-false}
+use lib.Dec.{eqb}
+use borrow.Author.Tests.{eqb-false, not-true, not-false}
 use Rattle.loops.specs.Search.{first}
-use Rattle.loops.proofs.Search.{first-le, first-hit, first-before}
+use Rattle.loops.proofs.Bools.{and-left, and-right}
+use Rattle.loops.proofs.Search.{→all, first-le, first-hit, first-before}
 use Rattle.terms.specs.declared.setting.Setting.{Setting}
 use Rattle.terms.specs.declared.answer.Found.{Found}
 use Rattle.terms.specs.declared.answer.Found.the-variants.{At, Absent}
@@ -27,11 +28,21 @@ use Rattle.rules.specs.Poll.{polled}
 use Rattle.rules.specs.Readings.{readingOf}
 use Rattle.rules.specs.Listing.{listCall}
 use Rattle.rules.specs.Calls.{openAnswer, openCall, testOf, tested, bookAnswer, bookCall, askedOf, pollAnswer, pollCall, readingCall}
-use Rattle.rule_laws.proofs.RowRules.{recordRow→Rules, Rules→recordRow, slotGood→Rules, Rules→slotGood}
+use Rattle.rule_laws.proofs.Sound.{tests→Sound, header-kept, record-kept, slot-kept}
+use Rattle.rule_laws.proofs.RowRules.{Rules→headerGood, recordRow→Rules, Rules→recordRow, slotGood→Rules, Rules→slotGood}
 use Rattle.rule_laws.proofs.Calls.{leaves-answer}
 use Rattle.rule_laws.proofs.Tested.{tested-in-order}
 use Rattle.promises.specs.Run.{Call, Open, Book, Poll, Ask, outcomeOf}
-use Rattle.promises.specs.Damage.{Lowest, Names, DamageNamed}
+use Rattle.promises.specs.Damage.{SoundByRows, Lowest, NamesDamage, DamageNamed}
+
+pub sound-by-rows : SoundByRows
+unfolding SoundByRows
+sound-by-rows w = (
+  λ sound. record { headerKept = header-kept w sound; recordsKept = λ row u. record-kept w sound row; slotsKept = slot-kept w sound },
+  λ kept.
+      tests→Sound w (Rules→headerGood w (kept .headerKept)) (→all (recordRow w) recordRows (λ row u. Rules→recordRow w row (kept .recordsKept row u)))
+      (→all (slotGood w) slots (λ row u. Rules→slotGood w row (kept .slotsKept row u))),
+)
 
 -- ---- a search over rows finds the lowest that breaks a rule
 
@@ -54,31 +65,34 @@ slot-lowest : (w : List ℕ) → not (eqb (badSlot w) slots) ≡ true → Lowest
 unfolding badSlot
 slot-lowest w = lowest (slotGood w) slots (slotGood→Rules w) (Rules→slotGood w)
 
--- ---- numbers up to 13 name nothing
+-- ---- other numbers name nothing
 
-abbrev isSmall : Answer → Bool
-isSmall a = leb (number a) 13
+abbrev isOther : Answer → Bool
+isOther a = not (eqb (number a) 14) && not (eqb (number a) 15)
 
-small-cond : (t : Bool) (a b : Answer) → isSmall (cond t a b) ≡ cond t (isSmall a) (isSmall b)
-small-cond true a b = refl
-small-cond false a b = refl
+other-cond : (t : Bool) (a b : Answer) → isOther (cond t a b) ≡ cond t (isOther a) (isOther b)
+other-cond true a b = refl
+other-cond false a b = refl
 
 both-true : (t : Bool) → cond t true true ≡ true
 both-true true = refl
 both-true false = refl
 
-small-asked : (f : Found) (rest : ℕ → Answer) → ((i : ℕ) → isSmall (rest i) ≡ true) → isSmall (askedOf f rest) ≡ true
-small-asked (At i) rest small = small i
-small-asked Absent rest small = refl
+other-asked : (f : Found) (rest : ℕ → Answer) → ((i : ℕ) → isOther (rest i) ≡ true) → isOther (askedOf f rest) ≡ true
+other-asked (At i) rest other = other i
+other-asked Absent rest other = refl
 
 module _ (w : List ℕ) where
-  small-names : (a : Answer) → isSmall a ≡ true → Names w (number a) (value a)
-  small-names a e =
-      record { damagedRecord = λ q. absurd (omega (arith, leb-true (number a) 13 e)); damagedSlot = λ q. absurd (omega (arith, leb-true (number a) 13 e)) }
+  other-names : (a : Answer) → isOther a ≡ true → NamesDamage w (number a) (value a)
+  other-names a e =
+      record {
+        damagedRecord = λ q. absurd (eqb-false (number a) 14 (not-true _ (and-left (not (eqb (number a) 14)) _ e)) q);
+        damagedSlot = λ q. absurd (eqb-false (number a) 15 (not-true _ (and-right (not (eqb (number a) 14)) _ e)) q);
+      }
 
   -- what begins with the test
-  tested-names : (rest : Answer) → isSmall rest ≡ true → Names w (number (tested testOf w rest)) (value (tested testOf w rest))
-  tested-names rest small =
+  tested-names : (rest : Answer) → isOther rest ≡ true → NamesDamage w (number (tested testOf w rest)) (value (tested testOf w rest))
+  tested-names rest other =
       rw (tested-in-order w rest)
       (go (not (eqb (length w) size)) (not (headerGood w)) (not (eqb (badRecord w) recordRows)) (not (eqb (badSlot w) slots)) (record-lowest w) (slot-lowest w))
     where
@@ -93,42 +107,42 @@ module _ (w : List ℕ) where
       go : (long header records entries : Bool)
           → (records ≡ true → Lowest (RecordRules w) recordRows (badRecord w))
           → (entries ≡ true → Lowest (SlotRules w) slots (badSlot w))
-          → Names w (number (answer long header records entries)) (value (answer long header records entries))
-      go true header records entries broken bad = small-names (Refused WrongLength) refl
-      go false true records entries broken bad = small-names (Refused DamagedHeader) refl
+          → NamesDamage w (number (answer long header records entries)) (value (answer long header records entries))
+      go true header records entries broken bad = other-names (Refused WrongLength) refl
+      go false true records entries broken bad = other-names (Refused DamagedHeader) refl
       go false false true entries broken bad = record { damagedRecord = λ q. (badRecord w, refl, broken refl); damagedSlot = λ q. absurd (omega arith) }
       go false false false true broken bad = record { damagedRecord = λ q. absurd (omega arith); damagedSlot = λ q. (badSlot w, refl, bad refl) }
-      go false false false false broken bad = small-names rest small
+      go false false false false broken bad = other-names rest other
 
 -- ---- the calls
 
-open-names : (w : List ℕ) (s : Setting) → Names w (number (openCall w s .answer)) (value (openCall w s .answer))
+open-names : (w : List ℕ) (s : Setting) → NamesDamage w (number (openCall w s .answer)) (value (openCall w s .answer))
 unfolding openCall
-open-names w s = rw (leaves-answer (openAnswer w s) w (opened s)) (small-names w (openAnswer w s) (simp (small-cond, both-true)))
+open-names w s = rw (leaves-answer (openAnswer w s) w (opened s)) (other-names w (openAnswer w s) (simp (other-cond, both-true)))
 
 book-names : (w : List ℕ) (name slot : ℕ) (parents : List ℕ)
-    → Names w (number (bookCall w name slot parents .answer)) (value (bookCall w name slot parents .answer))
+    → NamesDamage w (number (bookCall w name slot parents .answer)) (value (bookCall w name slot parents .answer))
 unfolding bookCall
 book-names w name slot parents =
-    rw (leaves-answer (bookAnswer testOf w name slot parents) w (booked w name slot parents)) (tested-names w _ (simp (small-cond, both-true)))
+    rw (leaves-answer (bookAnswer testOf w name slot parents) w (booked w name slot parents)) (tested-names w _ (simp (other-cond, both-true)))
 
-poll-names : (w : List ℕ) (name : ℕ) (votes : List ℕ) → Names w (number (pollCall w name votes .answer)) (value (pollCall w name votes .answer))
+poll-names : (w : List ℕ) (name : ℕ) (votes : List ℕ) → NamesDamage w (number (pollCall w name votes .answer)) (value (pollCall w name votes .answer))
 unfolding pollCall
 poll-names w name votes =
     rw (leaves-answer (pollAnswer testOf w name votes) w (polled w (numberOf (lookUp w name)) votes))
-    (tested-names w _ (small-asked (lookUp w name) _ (λ i. simp (small-cond, both-true))))
+    (tested-names w _ (other-asked (lookUp w name) _ (λ i. simp (other-cond, both-true))))
 
-reading-names : (f : ℕ → ℤ) (w : List ℕ) (name : ℕ) → Names w (number (readingCall f w name)) (value (readingCall f w name))
-reading-names f w name = tested-names w _ (small-asked (lookUp w name) _ (λ i. refl))
+reading-names : (f : ℕ → ℤ) (w : List ℕ) (name : ℕ) → NamesDamage w (number (readingCall f w name)) (value (readingCall f w name))
+reading-names f w name = tested-names w _ (other-asked (lookUp w name) _ (λ i. refl))
 
-calls-name : (c : Call) (w : List ℕ) → Names w (number (outcomeOf c w .answer)) (value (outcomeOf c w .answer))
+calls-name : (c : Call) (w : List ℕ) → NamesDamage w (number (outcomeOf c w .answer)) (value (outcomeOf c w .answer))
 unfolding outcomeOf
 calls-name (Open s) w = open-names w s
 calls-name (Book name slot parents) w = book-names w name slot parents
 calls-name (Poll name votes) w = poll-names w name votes
 calls-name (Ask what name) w = reading-names (readingOf what w) w name
 
-list-names : (w : List ℕ) → Names w (number (listCall w)) (value (listCall w))
+list-names : (w : List ℕ) → NamesDamage w (number (listCall w)) (value (listCall w))
 unfolding listCall
 list-names w = tested-names w done refl
 

@@ -20,7 +20,7 @@ use Rattle.rule_laws.proofs.Calls.{refusalNumber-within, number-refused, value-
 use Rattle.rule_laws.proofs.Lookup.{found-below}
 use Rattle.rule_laws.proofs.Readings.{query-le, accepted-le, confidence-le, lead-le, size-least, size-most}
 use Rattle.promises.specs.Run.{outcomeOf}
-use Rattle.promises.specs.Damage.{Names}
+use Rattle.promises.specs.Damage.{NamesDamage}
 use Rattle.promises.specs.Ranges.{Between, Ranges}
 use Rattle.promises.proofs.Damage.{damage-named}
 use Rattle.promises.proofs.Taken.{reading-taken}
@@ -34,7 +34,7 @@ between least most n l u = record { number = n; is = refl; above = l; below = u 
 
 -- ---- a refused call has value 0, or with 14 and 15 a row
 
-refused-row : (w : List ℕ) (a : Answer) → Names w (number a) (value a) → number a ≢ 0 → Between 0 512 (value a)
+refused-row : (w : List ℕ) (a : Answer) → NamesDamage w (number a) (value a) → number a ≢ 0 → Between 0 512 (value a)
 refused-row w a names h = go (ℕ-discrete (number a) 14) (ℕ-discrete (number a) 15)
   where
     go : Dec (number a ≡ 14) → Dec (number a ≡ 15) → Between 0 512 (value a)

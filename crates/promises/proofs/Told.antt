@@ -11,7 +11,7 @@ use lib.IntN.{ℤ, pos}
 use Rattle.loops.specs.Total.{bit, total, count}
 use Rattle.terms.specs.declared.answer.Answer.the-variants.{Taken}
 use Rattle.rules.specs.Layout.{bookings, nameOf, confidenceOf}
-use Rattle.rules.specs.Ancestry.{Reaches, ancestry, isMember}
+use Rattle.rules.specs.Ancestry.{ancestry, isMember}
 use Rattle.rules.specs.Readings.{queryOf, acceptedOf, leadOf, rivalsMost, sizeOf}
 use Rattle.rules.specs.Sound.{Ledger}
 use Rattle.rules.specs.Calls.{readingCall}

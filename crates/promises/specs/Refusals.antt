@@ -17,7 +17,7 @@ use Rattle.rules.specs.Listing.{listCall}
 use Rattle.promises.specs.Run.{Call, outcomeOf}
 use Rattle.promises.specs.Damage.{Broken}
 
--- ---- a refused call changes nothing
+-- ---- a refused call changes nothing, and has value 0; with 14 and 15 Damage.antt says what the value is
 
 unfoldable pub RefusedKeeps : Type 0
 RefusedKeeps =
@@ -77,14 +77,20 @@ OpenListed w s =
     (refuses 3 (Good s → ⊥)
     taken)
 
--- 1, 2, 14 and 15, which every call but open begins with
+-- 2, 14 and 15: the damage of words of the right length
+abbrev pub damagedListed : List ℕ → (ℕ → Type 0) → ℕ → Type 0
+damagedListed w rest =
+    refuses 2 (HeaderRules w → ⊥)
+    (refuses 14 (Broken (RecordRules w) recordRows)
+    (refuses 15 (Broken (SlotRules w) slots)
+    rest))
+
+-- 1 and these, which every call but open begins with
 abbrev pub testedListed : List ℕ → (ℕ → Type 0) → ℕ → Type 0
 testedListed w rest =
     refuses 1 (length w ≢ size)
-    (refuses 2 (HeaderRules w → ⊥)
-    (refuses 14 (Broken (RecordRules w) recordRows)
-    (refuses 15 (Broken (SlotRules w) slots)
-    rest)))
+    (damagedListed w
+    rest)
 
 abbrev pub BookListed : List ℕ → ℕ → ℕ → List ℕ → ℕ → Type 0
 BookListed w name slot parents =

@@ -14,7 +14,7 @@ use Rattle.rules.specs.IsSound.{recordRow, recordRows, badRecord}
 use Rattle.rules.specs.RowRules.{HeaderRules, RulesBelow}
 use Rattle.rules.specs.Calls.{testOf}
 use Rattle.rule_laws.proofs.RowRules.{Rules→headerGood, recordRow→Rules, Rules→recordRow}
-use Rattle.rule_laws.proofs.Tested.{test-record}
+use Rattle.rule_laws.proofs.Tested.{damage-record, test-long}
 
 -- the header and every record below n keep their rules, and none of these records holds the ordinal
 pub record Missing (w : List ℕ) (ordinal : ℕ) : Type 0 where
@@ -32,11 +32,11 @@ module _ (w : List ℕ) (ordinal : ℕ) (missing : Missing w ordinal) where
       go : (kept : Bool) → recordRow w (bookings w) ≡ kept → kept ≡ false
       go false e = refl
       go true e =
-          let held = recordRow→Rules w (bookings w) e .on (omega arith) .ordinalHeld refl ordinal (missing .least) (missing .most) in
+          let held = recordRow→Rules w (bookings w) e .from (omega arith) .ordinalHeld refl ordinal (missing .least) (missing .most) in
           absurd (missing .unheld (held .0) (held .1) (held .2))
 
   row-below : (i : ℕ) → i < bookings w → recordRow w i ≡ true
-  row-below i u = Rules→recordRow w i (record { below = λ v. missing .below i u; on = λ l. absurd (omega arith) })
+  row-below i u = Rules→recordRow w i (record { below = λ v. missing .below i u; from = λ l. absurd (omega arith) })
 
   row-is : bookings w ≡ badRecord w
   unfolding badRecord
@@ -45,7 +45,8 @@ module _ (w : List ℕ) (ordinal : ℕ) (missing : Missing w ordinal) where
 
   pub missing-charged : testOf w ≡ Stop (DamagedRecord (bookings w))
   missing-charged =
-      sym (test-record w (missing .whole) (Rules→headerGood w (missing .header)) (bookings w) row-is (λ e. omega (arith, missing .header .bookingsMost)))
+      test-long w (missing .whole)
+      ∙ sym (damage-record w (Rules→headerGood w (missing .header)) (bookings w) row-is (λ e. omega (arith, missing .header .bookingsMost)))
 
   pub full-missing-charged : bookings w ≡ mostBookings → testOf w ≡ Stop (DamagedRecord 512)
   full-missing-charged full = missing-charged ∙ ap (λ n. Stop (DamagedRecord n)) full

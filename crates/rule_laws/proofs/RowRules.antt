@@ -26,7 +26,7 @@ use Rattle.rules.specs.IsSound.{
   slotGood,
   badSlot,
 }
-use Rattle.rules.specs.RowRules.{HeaderRules, Genesis, RulesBelow, RulesOn, RecordRules, SlotRules}
+use Rattle.rules.specs.RowRules.{HeaderRules, Genesis, RulesBelow, RulesFrom, RecordRules, SlotRules}
 use Rattle.rules.specs.Layout.{
   mostBookings,
   slots,
@@ -156,7 +156,7 @@ Rules→recordGood w (suc i) rules =
 abbrev isHeld : List ℕ → ℕ → Bool
 isHeld w o = any (λ i. eqb (ordinalOf w i) (o + 1)) (bookings w)
 
-restGood→Rules : (w : List ℕ) (i : ℕ) → restGood w i ≡ true → RulesOn w i
+restGood→Rules : (w : List ℕ) (i : ℕ) → restGood w i ≡ true → RulesFrom w i
 restGood→Rules w i e =
     record {
       zero = λ u f v.
@@ -171,7 +171,7 @@ restGood→Rules w i e =
         let found = any→ (λ i. eqb (ordinalOf w i) (o + 1)) (bookings w) (all→ (isHeld w) (polls w) h o u) in
         (found .0, found .1, omega (arith, eqb-true (ordinalOf w (found .0)) (o + 1) (found .2)))
 
-Rules→restGood : (w : List ℕ) (i : ℕ) → RulesOn w i → restGood w i ≡ true
+Rules→restGood : (w : List ℕ) (i : ℕ) → RulesFrom w i → restGood w i ≡ true
 Rules→restGood w i rules =
     and-both _ _
     (or-else _ _ (λ t. →all (λ f. eqb (field w i f) 0) recordWords (λ f v. eq-eqb _ _ (rules .zero (leb-false mostBookings i t) f v))))
@@ -188,7 +188,7 @@ pub recordRow→Rules : (w : List ℕ) (i : ℕ) → recordRow w i ≡ true → 
 recordRow→Rules w i e =
     record {
       below = λ l. recordGood→Rules w i (rw (lt-ltb i (bookings w) l) at e);
-      on = λ l. restGood→Rules w i (rw (le-ltb i (bookings w) l) at e);
+      from = λ l. restGood→Rules w i (rw (le-ltb i (bookings w) l) at e);
     }
 
 pub Rules→recordRow : (w : List ℕ) (i : ℕ) → RecordRules w i → recordRow w i ≡ true
@@ -196,7 +196,7 @@ Rules→recordRow w i rules = go (decLt i (bookings w))
   where
     go : Dec (i < bookings w) → recordRow w i ≡ true
     go (yes l) = rw (lt-ltb i (bookings w) l) (Rules→recordGood w i (rules .below l))
-    go (no h) = rw (le-ltb i (bookings w) (omega arith)) (Rules→restGood w i (rules .on (omega arith)))
+    go (no h) = rw (le-ltb i (bookings w) (omega arith)) (Rules→restGood w i (rules .from (omega arith)))
 
 -- ---- a slot row
 

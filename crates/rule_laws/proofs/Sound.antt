@@ -10,7 +10,7 @@ use Rattle.loops.specs.Search.{all}
 use Rattle.loops.proofs.Search.{all→, →all}
 use Rattle.rules.specs.IsSound.{headerGood, recordRow, recordRows, slotGood, isSound}
 use Rattle.rules.specs.Sound.{Sound}
-use Rattle.rules.specs.RowRules.{HeaderRules, Genesis, RulesBelow, RulesOn, RecordRules, SlotRules}
+use Rattle.rules.specs.RowRules.{HeaderRules, Genesis, RulesBelow, RulesFrom, RecordRules, SlotRules}
 use Rattle.rules.specs.Layout.{slots, bookings, nameOf, ordinalOf}
 use Rattle.loops.proofs.Bools.{row-at, row-by}
 use Rattle.rule_laws.proofs.Bookings.{either-order}
@@ -45,8 +45,8 @@ module _ (w : List ℕ) (e : isSound w ≡ true) where
   rules-below : (i : ℕ) → i < bookings w → RulesBelow w i
   rules-below i u = record-rules i (omega (arith, header-rules .bookingsMost)) .below u
 
-  rules-on : (i : ℕ) → bookings w ≤ i → i < recordRows → RulesOn w i
-  rules-on i l u = record-rules i u .on l
+  rules-from : (i : ℕ) → bookings w ≤ i → i < recordRows → RulesFrom w i
+  rules-from i l u = record-rules i u .from l
 
   genesis-rules : Genesis w
   genesis-rules = rules-below 0 (header-rules .bookingsLeast) .genesis (omega arith)
@@ -70,9 +70,9 @@ module _ (w : List ℕ) (e : isSound w ≡ true) where
     nameAlone = either-order (bookings w) (λ i j. nameOf w i ≢ nameOf w j) (λ i j. Ne·symm) (λ i u. rules-below i u .nameNew);
     booking = λ i l u. rules-below i u .booking l;
     ordinalMost = λ i u. rules-below i u .ordinalMost;
-    ordinalHeld = rules-on (bookings w) (omega arith) (omega (arith, header-rules .bookingsMost)) .ordinalHeld (omega arith);
+    ordinalHeld = rules-from (bookings w) (omega arith) (omega (arith, header-rules .bookingsMost)) .ordinalHeld (omega arith);
     ordinalAlone = either-order (bookings w) (λ i j. ordinalOf w i ≢ 0 → ordinalOf w i ≢ ordinalOf w j) (λ i j r q d. r (λ z. q (d ∙ z)) (sym d)) ordinal-new;
-    restZero = λ i f l u v. rules-on i l (omega arith) .zero u f v;
+    restZero = λ i f l u v. rules-from i l (omega arith) .zero u f v;
     emptyEntry = λ s u. slot-rules s u .empty;
     heldEntry = λ s u. slot-rules s u .held;
     confidenceMost = λ i u. rules-below i u .confidenceMost;
@@ -116,7 +116,7 @@ module _ (w : List ℕ) (sound : Sound w) where
       ordinalNew = λ j l q r. sound .ordinalAlone i j u (omega arith) (omega arith) q (sym r);
       confidenceMost = sound .confidenceMost i u;
     };
-    on = λ l. record { zero = λ u f v. sound .restZero i f l u v; ordinalHeld = λ here. sound .ordinalHeld };
+    from = λ l. record { zero = λ u f v. sound .restZero i f l u v; ordinalHeld = λ here. sound .ordinalHeld };
   }
 
   pub slot-kept : (s : ℕ) → s < slots → SlotRules w s

@@ -1,5 +1,5 @@
 -- What the test of a workspace tells: nothing stops a call exactly on a ledger, and there every call but open is what follows the test.
-use mathlib.Core.Path.{_≡_, refl, sym, ap, _∙_}
+use mathlib.Core.Path.{_≡_, refl, sym, ap}
 use mathlib.Core.Bool.{Bool, true, false, not, cond, true≢false}
 use mathlib.Core.List.{List}
 use mathlib.Core.Logic.{_≢_}
@@ -20,7 +20,7 @@ use Rattle.rules.specs.Layout.{size, slots}
 use Rattle.rules.specs.IsSound.{headerGood, recordRow, recordRows, badRecord, slotGood, badSlot}
 use Rattle.rules.specs.Sound.{Ledger}
 use Rattle.rules.specs.Book.{lookUp}
-use Rattle.rules.specs.Calls.{testOf, unlessStopped, tested, askedOf, readingCall}
+use Rattle.rules.specs.Calls.{damageOf, testOf, unlessStopped, tested, askedOf, readingCall}
 use Rattle.loops.specs.Search.{all}
 use Rattle.loops.proofs.Search.{→all}
 use Rattle.rule_laws.proofs.RowRules.{Rules→headerGood, Rules→recordRow, Rules→slotGood}
@@ -40,12 +40,8 @@ pub tested-in-order : (w : List ℕ) (rest : Answer)
     (cond (not (eqb (badRecord w) recordRows)) (Refused (DamagedRecord (badRecord w)))
     (cond (not (eqb (badSlot w) slots)) (Refused (DamagedSlot (badSlot w)))
     rest)))
-unfolding testOf
+unfolding testOf damageOf
 tested-in-order w rest = simp stopped-cond
-
--- a workspace that was never opened, or whose header is damaged
-pub tested-header : (w : List ℕ) → length w ≡ size → headerGood w ≡ false → (rest : Answer) → tested testOf w rest ≡ Refused DamagedHeader
-tested-header w h f rest = tested-in-order w rest ∙ rw (eq-eqb (length w) size h, f)
 
 pub stop-tested : (w : List ℕ) (r : Refusal) (rest : Answer) → testOf w ≡ Stop r → tested testOf w rest ≡ Refused r
 stop-tested w r rest e = ap (λ t. unlessStopped t rest) e
@@ -54,26 +50,31 @@ stop-tested w r rest e = ap (λ t. unlessStopped t rest) e
 pub stop-leaves : (w after : List ℕ) (r : Refusal) (rest : Answer) → testOf w ≡ Stop r → leaves (tested testOf w rest) w after ≡ outcome (Refused r) w
 stop-leaves w after r rest e = ap (λ a. leaves a w after) (stop-tested w r rest e)
 
--- ---- the test of a workspace of the right length, case by case
+-- ---- the damage, case by case
 
-module _ (w : List ℕ) (long : length w ≡ size) where
-  pub test-header : headerGood w ≡ false → Stop DamagedHeader ≡ testOf w
-  unfolding testOf
-  test-header f = rw (eq-eqb (length w) size long, f)
+module _ (w : List ℕ) where
+  pub damage-header : headerGood w ≡ false → Stop DamagedHeader ≡ damageOf w
+  unfolding damageOf
+  damage-header f = rw f
 
   module _ (header : headerGood w ≡ true) where
-    pub test-record : (row : ℕ) → row ≡ badRecord w → row ≢ recordRows → Stop (DamagedRecord row) ≡ testOf w
-    unfolding testOf
-    test-record row e h = rw (eq-eqb (length w) size long, header, ← e, ne-eqb row recordRows h)
+    pub damage-record : (row : ℕ) → row ≡ badRecord w → row ≢ recordRows → Stop (DamagedRecord row) ≡ damageOf w
+    unfolding damageOf
+    damage-record row e h = rw (header, ← e, ne-eqb row recordRows h)
 
     module _ (records : recordRows ≡ badRecord w) where
-      pub test-slot : (s : ℕ) → s ≡ badSlot w → s ≢ slots → Stop (DamagedSlot s) ≡ testOf w
-      unfolding testOf
-      test-slot s e h = rw (eq-eqb (length w) size long, header, ← records, ← e, ne-eqb s slots h)
+      pub damage-slot : (s : ℕ) → s ≡ badSlot w → s ≢ slots → Stop (DamagedSlot s) ≡ damageOf w
+      unfolding damageOf
+      damage-slot s e h = rw (header, ← records, ← e, ne-eqb s slots h)
 
-      pub test-fine : slots ≡ badSlot w → Fine ≡ testOf w
-      unfolding testOf
-      test-fine e = rw (eq-eqb (length w) size long, header, ← records, ← e)
+      pub damage-none : slots ≡ badSlot w → Fine ≡ damageOf w
+      unfolding damageOf
+      damage-none e = rw (header, ← records, ← e)
+
+-- a workspace of the right length is tested for damage
+pub test-long : (w : List ℕ) → length w ≡ size → testOf w ≡ damageOf w
+unfolding testOf
+test-long w long = rw (eq-eqb (length w) size long)
 
 -- ---- what is fine
 
@@ -86,7 +87,7 @@ fine-cond true r more e = (refl, e)
 fine-cond false r more e = absurd (true≢false (sym (ap isFine e)))
 
 pub fine-ledger : (w : List ℕ) → testOf w ≡ Fine → Ledger w
-unfolding testOf badRecord badSlot
+unfolding testOf damageOf badRecord badSlot
 fine-ledger w e =
     let long = fine-cond (eqb (length w) size) _ _ e in
     let header = fine-cond (headerGood w) _ _ (long .1) in
@@ -98,7 +99,7 @@ fine-ledger w e =
     }
 
 pub ledger-fine : (w : List ℕ) → Ledger w → testOf w ≡ Fine
-unfolding testOf badRecord badSlot
+unfolding testOf damageOf badRecord badSlot
 ledger-fine w l =
     rw (
       eq-eqb (length w) size (l .whole),

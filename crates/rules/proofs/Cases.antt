@@ -30,6 +30,9 @@ use Rattle.rules.specs.Layout.{
   pollsField,
   withField,
   withHeader,
+  bookingsField,
+  kField,
+  spareField,
   slotField,
   confidenceField,
   counterField,
@@ -206,6 +209,10 @@ restingSays = (is 2 ∷ is 2 ∷ is 0 ∷ is 0 ∷ []) ∷ []
 -- ---- CR 1: one ledger, damaged in one word or in several. Bookings 1, 2 and 3 are a chain in slots 7, 8 and 9; 1 and 2 have chits, and 3 waits.
 -- So n is 4 and p is 2, two records are in state 2, and 2 is the confidence of the genesis and of 1, the counter of slots 0 and 7, and the bound of both.
 
+-- record i has the name: a name below 65536 stands in the last of its four words
+abbrev named : List ℕ → (i name : ℕ) → List ℕ
+named w i name = withField w i 3 name
+
 unfoldable pub damaged : CallsMade → List (List Got)
 damaged c =
     let booked = c .book (c .book (openCall unopened (settingOf 1 1 1 2) .words) 1 7 (0 ∷ []) .words) 2 8 (1 ∷ []) .words in
@@ -214,34 +221,43 @@ damaged c =
     let confidence = withField counter 1 confidenceField 3 in
     let missing = withHeader sound pollsField 3 in
     let refused = c .book missing 4 10 (0 ∷ []) in
+    let told : List ℕ → Got = λ w. got (c .ask Size w 0) in
     -- nothing is damaged
-    (got (c .ask Size sound 3) ∷ [])
+    (told sound ∷ [])
     -- a name twice is charged to the higher record; of three holders the second is the lowest that breaks the rule
-    ∷ (got (c .ask Size (withField sound 3 3 2) 0) ∷ got (c .ask Size (withField (withField sound 3 3 1) 2 3 1) 0) ∷ got (c .ask Size (withField sound 1 3 0) 0) ∷ [])
-    -- so is an ordinal above 0; one above p breaks the rule at its lowest holder
-    ∷ (got (c .ask Size (withField sound 2 ordinalField 1) 0) ∷ got (c .ask Size (withField sound 1 ordinalField 3) 0) ∷ [])
+    ∷ (told (named sound 3 2) ∷ told (named (named sound 3 1) 2 1) ∷ told (named sound 1 0) ∷ [])
+    -- so is an ordinal above 0; one above p breaks the rule at every holder, the lowest too
+    ∷ (told (withField sound 2 ordinalField 1) ∷ told (withField (withField sound 1 ordinalField 3) 2 ordinalField 3) ∷ [])
     -- ordinal 3 is missing, and that is charged to n; so is a word there that is not 0; the last record has number 511
-    ∷ (got (c .ask Size missing 0) ∷ got (c .ask Size (withField sound 4 slotField 1) 0) ∷ got (c .ask Size (withField sound 511 ordinalField 1) 0) ∷ [])
+    ∷ (told missing ∷ told (withField sound 4 slotField 1) ∷ told (withField sound 511 ordinalField 1) ∷ [])
     -- a confidence above the bound is charged to its record, a counter to its slot; of two slots the lower; records come before slots
-    ∷ (got (c .ask Size (withField sound 1 confidenceField 3) 0) ∷ got (c .ask Size counter 0) ∷ got (c .ask Size (withEntry counter 255 heldField 1) 0)
-    ∷ got (c .ask Size (withEntry counter 0 lastField 1) 0) ∷ got (c .ask Size confidence 0) ∷ [])
+    ∷ (told (withField sound 1 confidenceField 3) ∷ told counter ∷ told (withEntry counter 255 heldField 1) ∷ told (withEntry counter 0 lastField 1) ∷ told confidence ∷ [])
+    -- the genesis is a record, and a slot without bookings has an entry; the last slot has number 255
+    ∷ (told (withField sound 0 stateField 2) ∷ told (withEntry sound 255 heldField 1) ∷ [])
     -- record 2 loses its chit: one record is left in state 2, and the genesis has a confidence of 2
-    ∷ (got (c .ask Size (withField sound 2 stateField 1) 0) ∷ [])
-    -- p = n breaks a header rule and hides the damage of record and slot; the wrong length hides that too
-    ∷ (got (c .ask Size (withHeader confidence pollsField 4) 0) ∷ got (c .ask Size (0 ∷ withHeader confidence pollsField 4) 0) ∷ got (c .ask Size unopened 0) ∷ [])
+    ∷ (told (withField sound 2 stateField 1) ∷ [])
+    -- p = n breaks a header rule and hides the damage of record and slot; the wrong length hides that too; so is what was never opened told
+    ∷ (told (withHeader confidence pollsField 4) ∷ told (0 ∷ withHeader confidence pollsField 4) ∷ told unopened ∷ [])
+    -- n, the setting and the spare words are the header's
+    ∷ (told (withHeader sound bookingsField 513) ∷ told (withHeader sound kField 0) ∷ told (withHeader sound spareField 1) ∷ told (withHeader sound 7 1) ∷ [])
+    -- damage comes before an unknown name and a name that is taken, and open does not look
+    ∷ (got (c .ask Size missing 9) ∷ got (c .ask Size counter 9) ∷ got (c .book counter 0 0 [] .answer) ∷ got (openCall confidence (settingOf 1 1 1 2) .answer) ∷ [])
     -- a booking and a poll are refused alike, and no word moves
     ∷ (got (refused .answer) ∷ is (bit (sameNumbers (refused .words) missing)) ∷ got (c .poll counter 3 (1 ∷ []) .answer) ∷ [])
     ∷ []
 
 unfoldable pub damagedSays : List (List Got)
 damagedSays =
-    (is 4 ∷ [])
+    (is 1 ∷ [])
     ∷ ((14, pos 3) ∷ (14, pos 2) ∷ (14, pos 1) ∷ [])
     ∷ ((14, pos 2) ∷ (14, pos 1) ∷ [])
     ∷ ((14, pos 4) ∷ (14, pos 4) ∷ (14, pos 511) ∷ [])
     ∷ ((14, pos 1) ∷ (15, pos 7) ∷ (15, pos 7) ∷ (15, pos 0) ∷ (14, pos 1) ∷ [])
+    ∷ ((14, pos 0) ∷ (15, pos 255) ∷ [])
     ∷ ((14, pos 0) ∷ [])
     ∷ ((2, pos 0) ∷ (1, pos 0) ∷ (2, pos 0) ∷ [])
+    ∷ ((2, pos 0) ∷ (2, pos 0) ∷ (2, pos 0) ∷ (2, pos 0) ∷ [])
+    ∷ ((14, pos 4) ∷ (15, pos 7) ∷ (15, pos 7) ∷ is 0 ∷ [])
     ∷ ((14, pos 4) ∷ is 1 ∷ (15, pos 7) ∷ [])
     ∷ []
 

@@ -1,14 +1,15 @@
--- Two rules and a case, each of one definition alone. The table of cases shows them on whole ledgers.
+-- Three rules and a case, each of one definition alone. The table of cases shows them on whole ledgers.
 use mathlib.Core.Path.{_≡_, refl, ap}
 use mathlib.Core.Bool.{cond}
 use mathlib.Core.List.{List, [], _∷_}
 use Prim.Native.Nat.{ℕ}
 use native.Mathlib.Omega.{arith}
 use lib.Seq.{set-set}
-use borrow.Author.Tests.{le-ltb}
+use borrow.Author.Tests.{le-ltb, eq-eqb}
 use Rattle.loops.specs.Total.{total}
 use Rattle.terms.specs.Votes.{voteOf}
-use Rattle.rules.specs.Layout.{preferredField, confidenceOf, preferredIn, withEntry}
+use Rattle.rules.specs.IsSound.{recordRow, ordinalsHeld}
+use Rattle.rules.specs.Layout.{mostBookings, bookings, preferredField, confidenceOf, preferredIn, withEntry}
 use Rattle.rules.specs.Ancestry.{mark}
 use Rattle.rules.specs.Poll.{yesVotes, prefer}
 
@@ -26,3 +27,7 @@ pub draw-moves-nothing : (s j : ℕ) (w : List ℕ) → confidenceOf w j ≡ con
 unfolding prefer
 draw-moves-nothing s j w level =
     ap (λ above. cond above (withEntry w s preferredField j) w) (le-ltb (confidenceOf w (preferredIn w s)) (confidenceOf w j) (omega arith))
+
+-- in a full ledger number 512 has no record: it answers for a missing ordinal, and for nothing else
+pub full-charges-512 : (w : List ℕ) → bookings w ≡ mostBookings → recordRow w mostBookings ≡ ordinalsHeld w
+full-charges-512 w full = rw (le-ltb mostBookings (bookings w) (omega arith), eq-eqb mostBookings (bookings w) (omega arith))

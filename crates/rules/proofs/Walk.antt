@@ -29,7 +29,7 @@ use Rattle.rules.specs.IsSound.{
   isBookingOf,
   chits,
 }
-use Rattle.rules.specs.Calls.{testBy, testOf}
+use Rattle.rules.specs.Calls.{damageBy, damageOf, testBy, testOf}
 
 -- a search over rows of z words from word b on, and the same by number
 module _ (b z k : ℕ) (bad : ℕ → List ℕ → Bool) (w : List ℕ) where
@@ -113,8 +113,8 @@ slot-walked-is w =
 -- ---- the test of the law, and the same by walking
 
 unfoldable pub testWalked : List ℕ → Tested
-testWalked = testBy badRecordWalked badSlotWalked
+testWalked = testBy (damageBy badRecordWalked badSlotWalked)
 
 pub test-walked-is : testWalked ≡ testOf
-unfolding testWalked testOf
-test-walked-is = ap₂ testBy (fun-ext record-walked-is) (fun-ext slot-walked-is)
+unfolding testWalked testOf damageOf
+test-walked-is = ap₂ (λ records slots. testBy (damageBy records slots)) (fun-ext record-walked-is) (fun-ext slot-walked-is)

@@ -54,17 +54,23 @@ openCall w s = leaves (openAnswer w s) w (opened s)
 
 -- ---- what the other calls begin with
 
--- refusals 1, 2, 14 and 15: the first that applies, if any; 14 and 15 name the lowest row that breaks a rule
-abbrev pub testBy : (lowestRecord lowestSlot : List ℕ → ℕ) → List ℕ → Tested
-testBy lowestRecord lowestSlot w =
-    cond (not (eqb (length w) size)) (Stop WrongLength)
-    (cond (not (headerGood w)) (Stop DamagedHeader)
+-- refusals 2, 14 and 15: the first that applies, if any; 14 and 15 carry the lowest row that breaks a rule
+abbrev pub damageBy : (lowestRecord lowestSlot : List ℕ → ℕ) → List ℕ → Tested
+damageBy lowestRecord lowestSlot w =
+    cond (not (headerGood w)) (Stop DamagedHeader)
     (cond (not (eqb (lowestRecord w) recordRows)) (Stop (DamagedRecord (lowestRecord w)))
     (cond (not (eqb (lowestSlot w) slots)) (Stop (DamagedSlot (lowestSlot w)))
-    Fine)))
+    Fine))
+
+unfoldable pub damageOf : List ℕ → Tested
+damageOf = damageBy badRecord badSlot
+
+-- refusal 1 before them
+abbrev pub testBy : (damage : List ℕ → Tested) → List ℕ → Tested
+testBy damage w = cond (not (eqb (length w) size)) (Stop WrongLength) (damage w)
 
 unfoldable pub testOf : List ℕ → Tested
-testOf = testBy badRecord badSlot
+testOf = testBy damageOf
 
 -- the rest of a call that no test stops
 abbrev pub unlessStopped : Tested → Answer → Answer
@@ -102,7 +108,7 @@ parentsAnswer w parents =
     (cond (eqb (bookings w) mostBookings) (Refused Full)
     done))
 
--- The other calls first test the workspace. Their test is `testOf`; that the section takes it as a parameter, as `testBy` takes its searches, lets
+-- The other calls first test the workspace. Their test is `testOf`; that the section takes it as a parameter, as `damageBy` takes its searches, lets
 -- the table of cases be computed with faster ones of the same results (proofs/Cases.antt).
 module _ (test : List ℕ → Tested) where
   abbrev pub tested : List ℕ → Answer → Answer

@@ -1,5 +1,5 @@
 -- Document 01, "A workspace is sound exactly if", and CR 1: the test, by rows. There is the header, a row for each record number from 0 to 512,
--- and a row for each slot; a workspace is sound where no row breaks a rule. Sound.antt says the same sentence by sentence.
+-- and a row for each slot; a workspace is sound where none of them breaks a rule. Sound.antt says the same sentence by sentence.
 use Prim.Native.Nat.{ℕ, suc, _+_}
 use mathlib.Core.Bool.{Bool, _&&_, _||_, not, cond}
 use mathlib.Core.List.{List}
@@ -131,7 +131,7 @@ slotGood w s = cond (eqb (bookingsOf w s) 0) (entryEmpty w s) (entryHeld w s)
 unfoldable pub badSlot : List ℕ → ℕ
 badSlot w = first (λ s. not (slotGood w s)) slots
 
--- ---- the whole: no row breaks a rule
+-- ---- the whole: neither the header nor a row breaks a rule
 
 unfoldable pub isSound : List ℕ → Bool
 isSound w = headerGood w && all (recordRow w) recordRows && all (slotGood w) slots

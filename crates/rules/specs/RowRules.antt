@@ -27,7 +27,7 @@ use Rattle.rules.specs.Layout.{
   counterIn,
 }
 
--- the header rules: document 01's first sentence alone
+-- the header rules: the first bullet of document 01's soundness, alone
 pub record HeaderRules (w : List ℕ) : Type 0 where
   pub bookingsLeast : 1 ≤ bookings w
   pub bookingsMost : bookings w ≤ mostBookings
@@ -56,13 +56,13 @@ pub record RulesBelow (w : List ℕ) (i : ℕ) : Type 0 where
   pub confidenceMost : confidenceOf w i ≤ chits w
 
 -- a row from n on. A missing ordinal is charged to row n, which is 512 in a full ledger, where no record is
-pub record RulesOn (w : List ℕ) (i : ℕ) : Type 0 where
+pub record RulesFrom (w : List ℕ) (i : ℕ) : Type 0 where
   pub zero : i < mostBookings → (f : ℕ) → f < recordWords → field w i f ≡ 0
   pub ordinalHeld : i ≡ bookings w → (o : ℕ) → 1 ≤ o → o ≤ polls w → (j : ℕ) × (j < bookings w) × (ordinalOf w j ≡ o)
 
 pub record RecordRules (w : List ℕ) (i : ℕ) : Type 0 where
   pub below : i < bookings w → RulesBelow w i
-  pub on : bookings w ≤ i → RulesOn w i
+  pub from : bookings w ≤ i → RulesFrom w i
 
 -- ---- slot rows
 

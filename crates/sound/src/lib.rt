@@ -11,12 +11,12 @@ use terms::answer::Tested;
 ghost use mathlib.Core.Path.{_≡_};
 ghost use lib.ListN.{length};
 ghost use Rattle.rules.specs.Layout.{size};
-ghost use Rattle.rules.specs.Calls.{testOf};
+ghost use Rattle.rules.specs.Calls.{damageOf};
 
 // The first damage of a workspace of the right length: in the header, or the lowest record row, or the lowest slot, that breaks a rule.
 pub fn damage(w: &[u16]) -> Tested
     requires { ⌜ length (now w) ≡ size ⌝ }
-    ensures { λ r. ⌜ r ≡ testOf (now (w .entry)) ⌝ }
+    ensures { λ r. ⌜ r ≡ damageOf (now (w .entry)) ⌝ }
 {
     if !sound_rows::header::header_good(w) {
         return Tested::Stop(Refusal::DamagedHeader);

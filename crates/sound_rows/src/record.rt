@@ -1,4 +1,4 @@
-// Is a record in order: the genesis, any other below n, and one from n on. Each test reads the words of that record alone.
+// Is a record in order: the genesis, any other below n, and one from n on. Each test reads the words of that record, and p.
 use rules::layout;
 use terms::vote;
 use terms::vote::State;

@@ -2,7 +2,8 @@
 ghost use mathlib.Core.Path.{_≡_};
 ghost use Rattle.terms.specs.Answers.{number, refusalNumber, refusalRow, value};
 
-// Why a call was refused, in the order of the numbers 1 to 15. Damage is named by the lowest row that breaks a rule.
+// Why a call was refused, in the order of the numbers 1 to 15. Damage of a record or a slot is named by the lowest
+// row that breaks a rule.
 pub enum Refusal {
     WrongLength,
     DamagedHeader,

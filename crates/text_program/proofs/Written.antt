@@ -3,7 +3,7 @@ use mathlib.Core.Path.{_≡_, sym, ap, _∙_}
 use mathlib.Core.List.{List, _++_}
 use Prim.Native.Nat.{ℕ}
 use lib.ListN.{take, drop}
-use Rattle.text_program.specs.Program.{zeros, lines, printed}
+use Rattle.text_program.specs.Program.{lines, printed}
 use Rattle.text_program.specs.Written.{Written, ended, piece, WrittenIsProgram}
 use Rattle.text_program.proofs.Program.{program-short, printed-over}
 

@@ -6,7 +6,7 @@ use borrow.Author.Needs.{needs}
 use borrow.Author.Tests.{not-true, not-false}
 use Rattle.rules.specs.IsSound.{headerGood}
 use Rattle.rule_laws.proofs.RowRules.{headerGood→Rules, badRecord-most, badSlot-most}
-use Rattle.rule_laws.proofs.Tested.{test-header, test-record, test-slot, test-fine}
+use Rattle.rule_laws.proofs.Tested.{damage-header, damage-record, damage-slot, damage-none}
 use Rattle.sound.proofs.damage.Statement.{statement}
 use Rattle.sound.proofs.damage.Tie as tie
 
@@ -14,7 +14,7 @@ header-good-requires : tie.Need-header-good-requires
 header-good-requires c κs = search needs
 
 header-wrong : tie.Need-returns
-header-wrong c = test-header _ (c .before .before .before .pre) (sym (c .before .header-good .ensures) ∙ not-true _ (c .if1 .taken))
+header-wrong c = damage-header _ (sym (c .before .header-good .ensures) ∙ not-true _ (c .if1 .taken))
 
 header-requires : tie.Need-header-requires
 header-requires c κs = search needs
@@ -41,7 +41,7 @@ cast-row c =
 record-wrong : tie.Need-returns-2
 record-wrong c =
     let E = c .before .before .before .before .before in
-    test-record _ (E .before .before .before .pre) (good E) (c .before .bad-row .result) (c .before .bad-row .ensures) (c .if2 .taken)
+    damage-record _ (good E) (c .before .bad-row .result) (c .before .bad-row .ensures) (c .if2 .taken)
 
 bad-slot-requires : tie.Need-bad-slot-requires
 bad-slot-requires c κs = (chits-requires (c .before .before .before) κs, c .before .before .chits .ensures)
@@ -54,13 +54,13 @@ slot-wrong : tie.Need-returns-3
 slot-wrong c =
     let R = c .before .before .before in
     let E = R .before .before .before .before in
-    test-slot _ (E .before .before .before .pre) (good E) (sym (c .before .before .if2 .left) ∙ R .bad-row .ensures) (c .before .bad-slot .result) (c .before .bad-slot .ensures) (c .if3 .taken)
+    damage-slot _ (good E) (sym (c .before .before .if2 .left) ∙ R .bad-row .ensures) (c .before .bad-slot .result) (c .before .bad-slot .ensures) (c .if3 .taken)
 
 none-wrong : tie.Need-returns-4
 none-wrong c =
     let R = c .before .before .before in
     let E = R .before .before .before .before in
-    test-fine _ (E .before .before .before .pre) (good E) (sym (c .before .before .if2 .left) ∙ R .bad-row .ensures) (sym (c .if3 .left) ∙ c .before .bad-slot .ensures)
+    damage-none _ (good E) (sym (c .before .before .if2 .left) ∙ R .bad-row .ensures) (sym (c .if3 .left) ∙ c .before .bad-slot .ensures)
 
 pub damage-spec : {M : Type 1} → statement M
 damage-spec =
