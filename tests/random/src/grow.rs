@@ -152,7 +152,7 @@ pub fn words_of(ledger: &Ledger) -> Vec<u16> {
 /// How many bookings a run starts from: mostly few, sometimes many, and all
 /// of them, or one or two less in turn, in one run of ten.
 pub fn any_size(prng: &mut Prng, run: usize) -> usize {
-    if run.is_multiple_of(10) {
+    if run % 10 == 0 {
         return BOOKINGS - run / 10 % 3;
     }
     match prng.below(20) {
