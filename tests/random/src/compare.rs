@@ -142,7 +142,9 @@ impl<'a> Contest<'a> {
         match (call, &mut self.history) {
             // Whatever was before, an opening starts a history.
             (Call::Open(setting), history) => {
-                history.get_or_insert_with(History::default).opened(setting.a);
+                history
+                    .get_or_insert_with(History::default)
+                    .opened(setting.a);
                 self.style.setting = *setting;
             }
             (
