@@ -21,6 +21,7 @@ use Rattle.terms.specs.declared.answer.Refusal.the-variants.{
   BadVote,
   DamagedRecord,
   DamagedSlot,
+  ShortBuffer,
 }
 use Rattle.terms.specs.declared.answer.Answer.the-variants.{Taken, Refused}
 use Rattle.terms.specs.Answers.{number, value}
@@ -46,6 +47,7 @@ refusals row =
     ∷ BadVote
     ∷ DamagedRecord row
     ∷ DamagedSlot row
+    ∷ ShortBuffer
     ∷ []
 
 abbrev refusalAt : ℕ → ℤ → Refusal
@@ -67,6 +69,7 @@ found-again WrongVotes = refl
 found-again BadVote = refl
 found-again (DamagedRecord row) = refl
 found-again (DamagedSlot row) = refl
+found-again ShortBuffer = refl
 
 pub answer-told : AnswerTold
 unfolding AnswerTold

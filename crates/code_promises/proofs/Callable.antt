@@ -1,5 +1,5 @@
 -- What the law gives for a call is an outcome that the contract of its function allows. Assumes nothing.
-use mathlib.Core.Path.{refl}
+use mathlib.Core.Path.{refl, sym, ap}
 use mathlib.Core.List.{List, []}
 use Prim.Native.Nat.{ℕ}
 use lib.IntN.{pos}
@@ -9,9 +9,11 @@ use borrow.Fn.Kinds.{In, Out}
 use Rattle.terms.specs.declared.setting.Setting.{Setting}
 use Rattle.terms.specs.declared.answer.Reading.the-variants.{Query, Accepted, Lead, Confidence, Size}
 use Rattle.terms.specs.declared.answer.Answer.{Answer}
-use Rattle.terms.specs.Answers.{Outcome, number, value}
+use Rattle.terms.specs.Answers.{Outcome, handover, number, value}
 use Rattle.rules.specs.Calls.{openCall, bookCall, pollCall, queryCall, acceptedCall, leadCall, confidenceCall, sizeCall}
-use Rattle.promises.specs.Run.{Open, Book, Poll, Ask}
+use Rattle.day_file.specs.Calls.{writeFirstCall}
+use Rattle.promises.specs.Run.{Open, Book, Poll, Ask, WriteFirst}
+use Rattle.promises.proofs.Taken.{write-words}
 use Rattle.station.specs.Returned.{Returned, Handed}
 use Rattle.code_promises.specs.Contract.{contractOf, Allowed, endedBy}
 use Rattle.code_promises.specs.OfCode.{Makes, CodeCallable}
@@ -19,9 +21,11 @@ use Rattle.code_promises.proofs.Functions.{
   by-open,
   by-book,
   by-poll,
+  by-write-first,
   by-filz-open,
   by-filz-book,
   by-filz-poll,
+  by-filz-write-first,
   function,
   of-ledger,
   of-station,
@@ -80,6 +84,22 @@ poll-callable name votes w =
       words = refl;
     }
 
+-- the words are only lent, and the law leaves them
+write-first-callable : (buffer w : List ℕ) → Makes function by-write-first (WriteFirst buffer) w
+write-first-callable buffer w =
+    let o = writeFirstCall w buffer in
+    record {
+      allowed = record {
+        at = ([], ([], tt));
+        given = (lent w, (lent buffer, tt));
+        returned = o .answer;
+        last = (tt, (o .lent, tt));
+        learnt = ap (λ words. handover (o .answer) words (o .lent)) (sym (write-words w buffer));
+      };
+      asks = refl;
+      words = refl;
+    }
+
 -- a reading with an answer that its contract allows
 abbrev read : {Asked : In 1 code.query.Kinds.ps} {Learnt : Out 1 code.query.Kinds.ps code.query.Kinds.r} →
     let f = contractOf 1 code.query.Kinds.ps code.query.Kinds.r Asked Learnt in
@@ -97,6 +117,7 @@ ledger-callable (Ask Accepted name) w = record { allowed = read name w (accepted
 ledger-callable (Ask Lead name) w = record { allowed = read name w (leadCall w name) refl; asks = refl; words = refl }
 ledger-callable (Ask Confidence name) w = record { allowed = read name w (confidenceCall w name) refl; asks = refl; words = refl }
 ledger-callable (Ask Size name) w = record { allowed = read name w (sizeCall w name) refl; asks = refl; words = refl }
+ledger-callable (WriteFirst buffer) w = write-first-callable buffer w
 
 -- ---- the C face's functions
 
@@ -145,6 +166,21 @@ filz-poll-callable name votes w =
       words = refl;
     }
 
+filz-write-first-callable : (buffer w : List ℕ) → Makes function by-filz-write-first (WriteFirst buffer) w
+filz-write-first-callable buffer w =
+    let o = writeFirstCall w buffer in
+    record {
+      allowed = record {
+        at = ([], ([], ([], tt)));
+        given = (lent w, (lent buffer, (lent (pos 0), tt)));
+        returned = number (o .answer);
+        last = (tt, (o .lent, (value (o .answer), tt)));
+        learnt = record { told = own (o .answer); words = sym (write-words w buffer); lent = refl };
+      };
+      asks = refl;
+      words = refl;
+    }
+
 abbrev filz-read : {Asked : In 2 code.filz_query.Kinds.ps} {Learnt : Out 2 code.filz_query.Kinds.ps code.filz_query.Kinds.r} →
     let f = contractOf 2 code.filz_query.Kinds.ps code.filz_query.Kinds.r Asked Learnt in
     (name : ℕ) (w : List ℕ) (r : Answer) →
@@ -164,3 +200,4 @@ station-callable (Ask Accepted name) w = let r = acceptedCall w name in record {
 station-callable (Ask Lead name) w = let r = leadCall w name in record { allowed = filz-read name w r (own r); asks = refl; words = refl }
 station-callable (Ask Confidence name) w = let r = confidenceCall w name in record { allowed = filz-read name w r (own r); asks = refl; words = refl }
 station-callable (Ask Size name) w = let r = sizeCall w name in record { allowed = filz-read name w r (own r); asks = refl; words = refl }
+station-callable (WriteFirst buffer) w = filz-write-first-callable buffer w

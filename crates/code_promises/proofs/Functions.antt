@@ -1,14 +1,14 @@
--- The public functions: the ledger's eight and the C face's eight. Each by its own contract, which src/lib.rt passes on, and by what its
+-- The public functions: the ledger's nine and the C face's nine. Each by its own contract, which src/lib.rt passes on, and by what its
 -- parameters mean.
 use Prim.Native.Nat.{ℕ}
-use mathlib.Core.List.{List}
+use mathlib.Core.List.{List, []}
 use lib.IntN.{ℤ}
 use denote.Ref.{now}
 use borrow.Fn.Kinds.{In, Out}
 use Rattle.terms.specs.declared.answer.Reading.the-variants.{Query, Accepted, Lead, Confidence, Size}
 use Rattle.terms.specs.declared.answer.Answer.{Answer}
 use Rattle.terms.specs.Answers.{number, value}
-use Rattle.promises.specs.Run.{Call, Open, Book, Poll, Ask}
+use Rattle.promises.specs.Run.{Call, Open, Book, Poll, Ask, WriteFirst}
 use Rattle.terms.specs.Setting.{settingOf}
 use Rattle.code_promises.specs.Contract.{contractOf, left}
 use Rattle.code_promises.specs.OfCode.{Done, Function}
@@ -23,6 +23,7 @@ pub data Name : Type 0 where
   by-lead : Name
   by-confidence : Name
   by-size : Name
+  by-write-first : Name
   by-filz-open : Name
   by-filz-book : Name
   by-filz-poll : Name
@@ -31,11 +32,16 @@ pub data Name : Type 0 where
   by-filz-lead : Name
   by-filz-confidence : Name
   by-filz-size : Name
+  by-filz-write-first : Name
+
+-- a call that was lent a buffer besides the words, and left these bytes in it
+abbrev leaving : Done → (bytes : List ℕ) → Done
+leaving d bytes = record { call = d .call; before = d .before; number = d .number; value = d .value; after = d .after; lent = bytes }
 
 -- ---- the ledger's functions return an answer
 
 abbrev answered : Call → (before : List ℕ) → Answer → (after : List ℕ) → Done
-answered c before r after = record { call = c; before = before; number = number r; value = value r; after = after }
+answered c before r after = record { call = c; before = before; number = number r; value = value r; after = after; lent = [] }
 
 -- a reading takes the words and a name
 abbrev reading : In 1 code.query.Kinds.ps → Out 1 code.query.Kinds.ps code.query.Kinds.r → (ℕ → Call) → Function
@@ -47,7 +53,7 @@ reading Asked Learnt call = record {
 -- ---- the C face's return a number, and write the value through their last pointer
 
 abbrev told : Call → (before : List ℕ) → ℕ → ℤ → (after : List ℕ) → Done
-told c before n v after = record { call = c; before = before; number = n; value = v; after = after }
+told c before n v after = record { call = c; before = before; number = n; value = v; after = after; lent = [] }
 
 abbrev filz-reading : In 2 code.filz_query.Kinds.ps → Out 2 code.filz_query.Kinds.ps code.filz_query.Kinds.r → (ℕ → Call) → Function
 filz-reading Asked Learnt call = record {
@@ -75,6 +81,12 @@ function by-accepted = reading code.accepted.Reads.Asked code.accepted.Reads.Lea
 function by-lead = reading code.lead.Reads.Asked code.lead.Reads.Learnt (Ask Lead)
 function by-confidence = reading code.confidence.Reads.Asked code.confidence.Reads.Learnt (Ask Confidence)
 function by-size = reading code.size.Reads.Asked code.size.Reads.Learnt (Ask Size)
+function by-write-first = record {
+  contract = contractOf 2 code.write_first.Kinds.ps code.write_first.Kinds.r code.write_first.Reads.Asked code.write_first.Reads.Learnt;
+  done = λ m. leaving
+      (answered (WriteFirst (now (m .given .1 .0))) (now (m .given .0)) (m .returned) (now (left m .0)))
+      (now (left m .1 .0));
+}
 function by-filz-open = record {
   contract = contractOf 2 code.filz_open.Kinds.ps code.filz_open.Kinds.r code.filz_open.Reads.Asked code.filz_open.Reads.Learnt;
   done = λ m. told
@@ -98,6 +110,12 @@ function by-filz-accepted = filz-reading code.filz_accepted.Reads.Asked code.fil
 function by-filz-lead = filz-reading code.filz_lead.Reads.Asked code.filz_lead.Reads.Learnt (Ask Lead)
 function by-filz-confidence = filz-reading code.filz_confidence.Reads.Asked code.filz_confidence.Reads.Learnt (Ask Confidence)
 function by-filz-size = filz-reading code.filz_size.Reads.Asked code.filz_size.Reads.Learnt (Ask Size)
+function by-filz-write-first = record {
+  contract = contractOf 3 code.filz_write_first.Kinds.ps code.filz_write_first.Kinds.r code.filz_write_first.Reads.Asked code.filz_write_first.Reads.Learnt;
+  done = λ m. leaving
+      (told (WriteFirst (now (m .given .1 .0))) (now (m .given .0)) (m .returned) (now (left m .1 .1 .0)) (now (left m .0)))
+      (now (left m .1 .0));
+}
 
 -- ---- the function that each face has for a call
 
@@ -110,6 +128,7 @@ of-ledger (Ask Accepted name) = by-accepted
 of-ledger (Ask Lead name) = by-lead
 of-ledger (Ask Confidence name) = by-confidence
 of-ledger (Ask Size name) = by-size
+of-ledger (WriteFirst buffer) = by-write-first
 
 abbrev pub of-station : Call → Name
 of-station (Open s) = by-filz-open
@@ -120,3 +139,4 @@ of-station (Ask Accepted name) = by-filz-accepted
 of-station (Ask Lead name) = by-filz-lead
 of-station (Ask Confidence name) = by-filz-confidence
 of-station (Ask Size name) = by-filz-size
+of-station (WriteFirst buffer) = by-filz-write-first

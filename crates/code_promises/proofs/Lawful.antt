@@ -1,12 +1,13 @@
--- Each function asks nothing, and its contract says that it gives what the law gives: number, value and words. Assumes nothing.
+-- Each function asks nothing, and its contract says that it gives what the law gives: number, value, words and bytes. Assumes nothing.
 use mathlib.Core.Path.{_≡_, refl, ap, subst}
 use mathlib.Core.List.{List}
 use Prim.Native.Nat.{ℕ}
+use lib.IntN.{ℤ}
 use Rattle.terms.specs.declared.answer.Answer.{Answer}
-use Rattle.terms.specs.Answers.{Outcome, outcome, number, value}
-use Rattle.promises.specs.Run.{outcomeOf}
-use Rattle.station.specs.Returned.{Handed}
-use Rattle.station.proofs.Telling.{left-of}
+use Rattle.terms.specs.Answers.{Outcome, outcome, Handover, number, value}
+use Rattle.promises.specs.Run.{outcomeOf, lentAfter}
+use Rattle.station.specs.Returned.{Handed, HandedOver}
+use Rattle.station.proofs.Telling.{left-of, handed-of}
 use Rattle.code_promises.specs.Contract.{Unasked, Allowed}
 use Rattle.code_promises.specs.OfCode.{Done, Function, NothingAsked, CodeLawful}
 use Rattle.code_promises.proofs.Functions.{
@@ -19,6 +20,7 @@ use Rattle.code_promises.proofs.Functions.{
   by-lead,
   by-confidence,
   by-size,
+  by-write-first,
   by-filz-open,
   by-filz-book,
   by-filz-poll,
@@ -27,15 +29,20 @@ use Rattle.code_promises.proofs.Functions.{
   by-filz-lead,
   by-filz-confidence,
   by-filz-size,
+  by-filz-write-first,
   function,
 }
 
 abbrev Gives : Done → Type 0
-Gives d = Handed (outcomeOf (d .call) (d .before)) (d .number) (d .value) (d .after)
+Gives d = Handed (outcomeOf (d .call) (d .before)) (d .number) (d .value) (d .after) × (d .lent ≡ lentAfter (d .call) (d .before))
 
 record Lawful (f : Function) : Type 0 where
   asks : Unasked (f .contract)
   gives : (m : Allowed (f .contract)) → Gives (f .done m)
+
+-- a handover has an outcome, and bytes besides
+over : {o : Handover} {n : ℕ} {v : ℤ} {w b : List ℕ} → HandedOver o n v w b → Handed (outcome (o .answer) (o .words)) n v w × (b ≡ o .lent)
+over h = (record { told = h .told; words = h .words }, h .lent)
 
 -- ---- the ledger's functions
 
@@ -47,70 +54,78 @@ reads : {a b : Answer} {w : List ℕ} → a ≡ b → Handed (outcome b w) (numb
 reads {w = w} e = answers (ap (λ r. outcome r w) e)
 
 open-lawful : Lawful (function by-open)
-unfolding outcomeOf
-open-lawful = record { asks = λ at given. tt; gives = λ m. answers (m .learnt) }
+unfolding outcomeOf lentAfter
+open-lawful = record { asks = λ at given. tt; gives = λ m. (answers (m .learnt), refl) }
 
 book-lawful : Lawful (function by-book)
-unfolding outcomeOf
-book-lawful = record { asks = λ at given. tt; gives = λ m. answers (m .learnt) }
+unfolding outcomeOf lentAfter
+book-lawful = record { asks = λ at given. tt; gives = λ m. (answers (m .learnt), refl) }
 
 poll-lawful : Lawful (function by-poll)
-unfolding outcomeOf
-poll-lawful = record { asks = λ at given. tt; gives = λ m. answers (m .learnt) }
+unfolding outcomeOf lentAfter
+poll-lawful = record { asks = λ at given. tt; gives = λ m. (answers (m .learnt), refl) }
 
 query-lawful : Lawful (function by-query)
-unfolding outcomeOf
-query-lawful = record { asks = λ at given. tt; gives = λ m. reads (m .learnt) }
+unfolding outcomeOf lentAfter
+query-lawful = record { asks = λ at given. tt; gives = λ m. (reads (m .learnt), refl) }
 
 accepted-lawful : Lawful (function by-accepted)
-unfolding outcomeOf
-accepted-lawful = record { asks = λ at given. tt; gives = λ m. reads (m .learnt) }
+unfolding outcomeOf lentAfter
+accepted-lawful = record { asks = λ at given. tt; gives = λ m. (reads (m .learnt), refl) }
 
 lead-lawful : Lawful (function by-lead)
-unfolding outcomeOf
-lead-lawful = record { asks = λ at given. tt; gives = λ m. reads (m .learnt) }
+unfolding outcomeOf lentAfter
+lead-lawful = record { asks = λ at given. tt; gives = λ m. (reads (m .learnt), refl) }
 
 confidence-lawful : Lawful (function by-confidence)
-unfolding outcomeOf
-confidence-lawful = record { asks = λ at given. tt; gives = λ m. reads (m .learnt) }
+unfolding outcomeOf lentAfter
+confidence-lawful = record { asks = λ at given. tt; gives = λ m. (reads (m .learnt), refl) }
 
 size-lawful : Lawful (function by-size)
-unfolding outcomeOf
-size-lawful = record { asks = λ at given. tt; gives = λ m. reads (m .learnt) }
+unfolding outcomeOf lentAfter
+size-lawful = record { asks = λ at given. tt; gives = λ m. (reads (m .learnt), refl) }
+
+write-first-lawful : Lawful (function by-write-first)
+unfolding outcomeOf lentAfter
+write-first-lawful = record { asks = λ at given. tt; gives = λ m. over (handed-of (m .learnt) (record { numbered = refl; valued = refl })) }
 
 -- ---- the C face's functions
 
 filz-open-lawful : Lawful (function by-filz-open)
-unfolding outcomeOf
-filz-open-lawful = record { asks = λ at given. tt; gives = λ m. m .learnt }
+unfolding outcomeOf lentAfter
+filz-open-lawful = record { asks = λ at given. tt; gives = λ m. (m .learnt, refl) }
 
 filz-book-lawful : Lawful (function by-filz-book)
-unfolding outcomeOf
-filz-book-lawful = record { asks = λ at given. tt; gives = λ m. m .learnt }
+unfolding outcomeOf lentAfter
+filz-book-lawful = record { asks = λ at given. tt; gives = λ m. (m .learnt, refl) }
 
 filz-poll-lawful : Lawful (function by-filz-poll)
-unfolding outcomeOf
-filz-poll-lawful = record { asks = λ at given. tt; gives = λ m. m .learnt }
+unfolding outcomeOf lentAfter
+filz-poll-lawful = record { asks = λ at given. tt; gives = λ m. (m .learnt, refl) }
 
 filz-query-lawful : Lawful (function by-filz-query)
-unfolding outcomeOf
-filz-query-lawful = record { asks = λ at given. tt; gives = λ m. record { told = m .learnt; words = refl } }
+unfolding outcomeOf lentAfter
+filz-query-lawful = record { asks = λ at given. tt; gives = λ m. (record { told = m .learnt; words = refl }, refl) }
 
 filz-accepted-lawful : Lawful (function by-filz-accepted)
-unfolding outcomeOf
-filz-accepted-lawful = record { asks = λ at given. tt; gives = λ m. record { told = m .learnt; words = refl } }
+unfolding outcomeOf lentAfter
+filz-accepted-lawful = record { asks = λ at given. tt; gives = λ m. (record { told = m .learnt; words = refl }, refl) }
 
 filz-lead-lawful : Lawful (function by-filz-lead)
-unfolding outcomeOf
-filz-lead-lawful = record { asks = λ at given. tt; gives = λ m. record { told = m .learnt; words = refl } }
+unfolding outcomeOf lentAfter
+filz-lead-lawful = record { asks = λ at given. tt; gives = λ m. (record { told = m .learnt; words = refl }, refl) }
 
 filz-confidence-lawful : Lawful (function by-filz-confidence)
-unfolding outcomeOf
-filz-confidence-lawful = record { asks = λ at given. tt; gives = λ m. record { told = m .learnt; words = refl } }
+unfolding outcomeOf lentAfter
+filz-confidence-lawful = record { asks = λ at given. tt; gives = λ m. (record { told = m .learnt; words = refl }, refl) }
 
 filz-size-lawful : Lawful (function by-filz-size)
-unfolding outcomeOf
-filz-size-lawful = record { asks = λ at given. tt; gives = λ m. record { told = m .learnt; words = refl } }
+unfolding outcomeOf lentAfter
+filz-size-lawful = record { asks = λ at given. tt; gives = λ m. (record { told = m .learnt; words = refl }, refl) }
+
+filz-write-first-lawful : Lawful (function by-filz-write-first)
+unfolding outcomeOf lentAfter
+filz-write-first-lawful = record { asks = λ at given. tt; gives = λ m. over (m .learnt) }
 
 -- ---- all of them
 
@@ -123,6 +138,7 @@ lawful by-accepted = accepted-lawful
 lawful by-lead = lead-lawful
 lawful by-confidence = confidence-lawful
 lawful by-size = size-lawful
+lawful by-write-first = write-first-lawful
 lawful by-filz-open = filz-open-lawful
 lawful by-filz-book = filz-book-lawful
 lawful by-filz-poll = filz-poll-lawful
@@ -131,6 +147,7 @@ lawful by-filz-accepted = filz-accepted-lawful
 lawful by-filz-lead = filz-lead-lawful
 lawful by-filz-confidence = filz-confidence-lawful
 lawful by-filz-size = filz-size-lawful
+lawful by-filz-write-first = filz-write-first-lawful
 
 pub nothing-asked : NothingAsked function
 unfolding NothingAsked

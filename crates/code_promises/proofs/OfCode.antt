@@ -1,5 +1,5 @@
 -- What holds of the law's outcomes holds of every call that a contract allows, since it gives that outcome. Assumes nothing.
-use mathlib.Core.Path.{_≡_, refl, sym, ap, subst, _∙_}
+use mathlib.Core.Path.{_≡_, refl, sym, ap, ap₂, subst, _∙_}
 use mathlib.Core.Bool.{true}
 use mathlib.Core.List.{List}
 use Prim.Native.Nat.{ℕ}
@@ -10,13 +10,17 @@ use Rattle.terms.specs.Answers.{Outcome, number, value}
 use Rattle.rules.specs.Layout.{nameOf}
 use Rattle.rules.specs.Calls.{openCall, acceptedCall}
 use Rattle.rule_laws.proofs.Calls.{number-refused}
-use Rattle.promises.specs.Run.{Call, Open, Book, Poll, Ask, outcomeOf, isTaken, History, fresh, historyAfter}
+use Rattle.day_file.specs.Bytes.{dayFile}
+use Rattle.day_file.specs.Calls.{writeFirstCall}
+use Rattle.promises.specs.Run.{Call, Open, Book, Poll, Ask, WriteFirst, outcomeOf, lentAfter, isTaken, History, fresh, historyAfter}
 use Rattle.promises.specs.Acceptance.{AcceptedOnce, AcceptedCallOnce}
 use Rattle.promises.specs.Damage.{NamesDamage}
 use Rattle.promises.specs.Refusals.{RefusedKeeps}
+use Rattle.promises.specs.DayFile.{Written, FileWritten}
 use Rattle.promises.proofs.Acceptance.{accepted-once, accepted-call-once}
 use Rattle.promises.proofs.Refusals.{refused-keeps, refused-listed}
 use Rattle.promises.proofs.Damage.{damage-named}
+use Rattle.promises.proofs.DayFile.{file-written}
 use Rattle.promises.proofs.Run.{Right, opening-right, step-right}
 use Rattle.station.specs.Returned.{Handed}
 use Rattle.code_promises.specs.OfCode.{
@@ -29,6 +33,7 @@ use Rattle.code_promises.specs.OfCode.{
   CodeListed,
   CodeRefuses,
   CodeNamesDamage,
+  CodeWrites,
   Accepts,
   CodeAcceptsOnce,
   Ran,
@@ -46,7 +51,11 @@ due d = outcomeOf (d .call) (d .before)
 
 gave : (d : Done) → Made function d → Handed (due d) (d .number) (d .value) (d .after)
 unfolding CodeLawful
-gave d m = code-lawful d m
+gave d m = code-lawful d m .0
+
+gave-lent : (d : Done) → Made function d → d .lent ≡ lentAfter (d .call) (d .before)
+unfolding CodeLawful
+gave-lent d m = code-lawful d m .1
 
 due-is : (d : Done) {c : Call} {w : List ℕ} → d .call ≡ c → d .before ≡ w → due d ≡ outcomeOf c w
 due-is d {c} asks words = ap (λ x. outcomeOf x (d .before)) asks ∙ ap (outcomeOf c) words
@@ -60,6 +69,7 @@ outcome-unique d e m k c w =
       gave d m .told .numbered ∙ ap (λ o. number (o .answer)) same ∙ sym (gave e k .told .numbered),
       gave d m .told .valued ∙ ap (λ o. value (o .answer)) same ∙ sym (gave e k .told .valued),
       gave d m .words ∙ ap (λ o. o .words) same ∙ sym (gave e k .words),
+      gave-lent d m ∙ ap₂ lentAfter c w ∙ sym (gave-lent e k),
     )
 
 listed : (c : Call) (w : List ℕ) → ListedFirst c w (number (outcomeOf c w .answer))
@@ -68,6 +78,7 @@ listed (Open s) w = refused-listed .opening w s
 listed (Book name slot parents) w = refused-listed .booking w name slot parents
 listed (Poll name votes) w = refused-listed .polling w name votes
 listed (Ask what name) w = refused-listed .reading what w name
+listed (WriteFirst buffer) w = refused-listed .writing w buffer
 
 pub code-listed : CodeListed function
 unfolding CodeListed
@@ -77,8 +88,11 @@ pub code-refuses : CodeRefuses function
 unfolding CodeRefuses RefusedKeeps
 code-refuses d m n =
     let kept = refused-keeps (d .call) (d .before) (λ e. n (gave d m .told .numbered ∙ e)) in
-    let numbered = gave d m .told .numbered in
-    (gave d m .words ∙ kept .0, λ k l. gave d m .told .valued ∙ kept .1 (λ e. k (numbered ∙ e)) (λ e. l (numbered ∙ e)))
+    let numbered = gave d m .told .numbered in (
+      gave d m .words ∙ kept .0,
+      λ k l. gave d m .told .valued ∙ kept .1 (λ e. k (numbered ∙ e)) (λ e. l (numbered ∙ e)),
+      gave-lent d m ∙ kept .2,
+    )
 
 pub code-names-damage : CodeNamesDamage function
 unfolding CodeNamesDamage
@@ -86,6 +100,22 @@ code-names-damage d m =
     let told = gave d m .told in
     subst (λ n. NamesDamage (d .before) n (d .value)) (sym (told .numbered))
     (subst (NamesDamage (d .before) (number (due d .answer))) (sym (told .valued)) (damage-named .calls (d .call) (d .before)))
+
+-- ---- the day file
+
+pub code-writes : CodeWrites function
+unfolding CodeWrites FileWritten outcomeOf lentAfter
+code-writes d buffer m asks taken =
+    let law = due-is d asks refl in
+    let given = gave d m in
+    let o = writeFirstCall (d .before) buffer in
+    let written = file-written (d .before) buffer (ap (λ x. number (x .answer)) (sym law) ∙ sym (given .told .numbered) ∙ taken) in
+    let valued : d .value ≡ value (o .answer) = given .told .valued ∙ ap (λ x. value (x .answer)) law in
+    let lent : d .lent ≡ o .lent = gave-lent d m ∙ ap (λ c. lentAfter c (d .before)) asks in (
+      subst (λ v. Written (dayFile (d .before)) buffer v (d .lent)) (sym valued)
+          (subst (Written (dayFile (d .before)) buffer (value (o .answer))) (sym lent) (written .0)),
+      given .words ∙ ap (λ x. x .words) law ∙ written .1,
+    )
 
 -- ---- demands 2 and 3
 

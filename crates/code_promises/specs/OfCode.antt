@@ -13,20 +13,24 @@ use Rattle.terms.specs.Answers.{number, value}
 use Rattle.rules.specs.Layout.{bookings, polls, slotOf, nameOf, confidenceOf, preferredIn}
 use Rattle.rules.specs.Readings.{acceptedOf}
 use Rattle.rules.specs.Sound.{Ledger}
-use Rattle.promises.specs.Run.{Call, Open, Book, Poll, Ask, outcomeOf, History, fresh, historyAfter}
-use Rattle.promises.specs.Refusals.{OpenListed, BookListed, PollListed, ReadingListed}
+use Rattle.day_file.specs.Bytes.{dayFile}
+use Rattle.promises.specs.Run.{Call, Open, Book, Poll, Ask, WriteFirst, outcomeOf, lentBy, lentAfter, History, fresh, historyAfter}
+use Rattle.promises.specs.Refusals.{OpenListed, BookListed, PollListed, ReadingListed, WriteListed}
 use Rattle.promises.specs.Damage.{NamesDamage}
+use Rattle.promises.specs.DayFile.{Written}
 use Rattle.promises.specs.Confidence.{Counted, sizes}
 use Rattle.station.specs.Returned.{Handed}
 use Rattle.code_promises.specs.Contract.{Contract, Unasked, Allowed}
 
--- all that a caller sees of a call: the words before it, the number and the value that it gave, and the words after it
+-- all that a caller sees of a call: the words before it, the number and the value that it gave, the words after it, and the bytes after it in
+-- the buffer lent besides. What stood in that buffer is in the call, and a call that is lent none leaves no bytes
 pub record Done : Type 0 where
   pub call : Call
   pub before : List ℕ
   pub number : ℕ
   pub value : ℤ
   pub after : List ℕ
+  pub lent : List ℕ
 
 -- a public function: its contract, and what a caller sees of each call that it allows
 pub record Function : Type 4 where
@@ -43,6 +47,7 @@ ListedFirst (Open s) w = OpenListed w s
 ListedFirst (Book name slot parents) w = BookListed w name slot parents
 ListedFirst (Poll name votes) w = PollListed w name votes
 ListedFirst (Ask what name) w = ReadingListed w name
+ListedFirst (WriteFirst buffer) w = WriteListed w buffer
 
 -- demands 2 and 3 of words with their history
 pub record Kept (w : List ℕ) (h : History) : Type 0 where
@@ -76,26 +81,37 @@ module _ {Name : Type 0} (function : Name → Function) where
   unfoldable pub CodeCallable : (face : Call → Name) → Type 0
   CodeCallable face = (c : Call) (w : List ℕ) → Makes (face c) c w
 
-  -- each call gives what the law says: number, value and words
+  -- each call gives what the law says: number, value, words and bytes
   unfoldable pub CodeLawful : Type 0
-  CodeLawful = (d : Done) → Made d → Handed (outcomeOf (d .call) (d .before)) (d .number) (d .value) (d .after)
+  CodeLawful =
+      (d : Done) → Made d
+      → Handed (outcomeOf (d .call) (d .before)) (d .number) (d .value) (d .after) × (d .lent ≡ lentAfter (d .call) (d .before))
 
   -- two outcomes of one call on the same words are equal
   unfoldable pub OutcomeUnique : Type 0
   OutcomeUnique =
-      (d e : Done) → Made d → Made e → d .call ≡ e .call → d .before ≡ e .before → (d .number ≡ e .number) × (d .value ≡ e .value) × (d .after ≡ e .after)
+      (d e : Done) → Made d → Made e → d .call ≡ e .call → d .before ≡ e .before → (d .number ≡ e .number) × (d .value ≡ e .value)
+      × (d .after ≡ e .after) × (d .lent ≡ e .lent)
 
   -- each refusal comes exactly in its listed case, the first in the order
   unfoldable pub CodeListed : Type 0
   CodeListed = (d : Done) → Made d → ListedFirst (d .call) (d .before) (d .number)
 
-  -- a refused call has changed no word, and its value is 0 unless its number is 14 or 15
+  -- a refused call has changed no word and no byte, and its value is 0 unless its number is 14 or 15
   unfoldable pub CodeRefuses : Type 0
-  CodeRefuses = (d : Done) → Made d → d .number ≢ 0 → (d .after ≡ d .before) × (d .number ≢ 14 → d .number ≢ 15 → d .value ≡ pos 0)
+  CodeRefuses =
+      (d : Done) → Made d → d .number ≢ 0 → (d .after ≡ d .before) × (d .number ≢ 14 → d .number ≢ 15 → d .value ≡ pos 0)
+      × (d .lent ≡ lentBy (d .call))
 
   -- with 14 and 15 the value is the lowest number of a record, or slot, that breaks a rule
   unfoldable pub CodeNamesDamage : Type 0
   CodeNamesDamage = (d : Done) → Made d → NamesDamage (d .before) (d .number) (d .value)
+
+  -- a file that is written stands at the front of the buffer, the bytes past it stay, the value is its length, and no word changes
+  unfoldable pub CodeWrites : Type 0
+  CodeWrites =
+      (d : Done) (buffer : List ℕ) → Made d → d .call ≡ WriteFirst buffer → d .number ≡ 0
+      → Written (dayFile (d .before)) buffer (d .value) (d .lent) × (d .after ≡ d .before)
 
   -- a taken answer of 1 to the question whether booking i of the words w is accepted
   pub record Accepts (w : List ℕ) (i : ℕ) : Type 0 where

@@ -1,4 +1,4 @@
-// THE PUBLIC CALLS. Each takes any lent words and any arguments, needs no check first, and settles answer and words by the law.
+// THE PUBLIC CALLS. Each takes any lent words and any arguments, needs no check first, and settles answer and all that it was lent by the law.
 // The readings stand in `ledger_reads` and are passed on.
 pub use ledger_reads::accepted;
 pub use ledger_reads::confidence;
@@ -11,8 +11,9 @@ use terms::answer::Refusal;
 use terms::answer::Tested;
 use terms::setting::Setting;
 ghost use mathlib.Core.Path.{_≡_};
-ghost use Rattle.terms.specs.Answers.{outcome};
+ghost use Rattle.terms.specs.Answers.{outcome, handover};
 ghost use Rattle.rules.specs.Calls.{openCall, bookCall, pollCall};
+ghost use Rattle.day_file.specs.Calls.{writeFirstCall};
 
 // The workspace becomes a ledger with the genesis only. Refusals 1, 3.
 pub fn open(w: &mut [u16], s: Setting) -> Answer
@@ -46,5 +47,15 @@ pub fn poll(w: &mut [u16], name: u64, votes: &[u8]) -> Answer
     match ledger_test::test(w) {
         Tested::Stop(refusal) => Answer::Refused(refusal),
         Tested::Fine => known_poll::poll(w, name, votes),
+    }
+}
+
+// The day file, in its first form, to the front of a lent buffer. No word changes. Refusals 1, 2, 14, 15, 16.
+pub fn write_first(w: &[u16], out: &mut [u8]) -> Answer
+    ensures { λ r. ⌜ handover r (now (w .entry)) (now (out .exit)) ≡ writeFirstCall (now (w .entry)) (now (out .entry)) ⌝ }
+{
+    match ledger_test::test(w) {
+        Tested::Stop(refusal) => Answer::Refused(refusal),
+        Tested::Fine => known_write::write_first(w, out),
     }
 }

@@ -18,7 +18,7 @@ use Rattle.rules.specs.Sound.{Ledger}
 use Rattle.rules.specs.Calls.{openCall, readCall}
 use Rattle.rules.specs.Listing.{listCall}
 use Rattle.rule_laws.proofs.Tested.{tested-known}
-use Rattle.text_put.specs.Put.{Put}
+use Rattle.put.specs.Put.{Put}
 use Rattle.text_print.specs.Print.{callPrints, readingPrints}
 use Rattle.line_parse.specs.declared.command.Command.{Command}
 use Rattle.line_parse.specs.declared.command.Command.the-variants.{Open, Book, Poll, Read, List as ListAll, Bad}

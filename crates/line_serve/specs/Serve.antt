@@ -11,7 +11,7 @@ use Rattle.rules.specs.Layout.{size}
 use Rattle.rules.specs.Sound.{Ledger}
 use Rattle.rules.specs.Calls.{openCall, bookCall, pollCall, readCall}
 use Rattle.rules.specs.Listing.{listCall}
-use Rattle.text_put.specs.Put.{Put}
+use Rattle.put.specs.Put.{Put}
 use Rattle.text_print.specs.Print.{badLine, readingPrints, callPrints}
 use Rattle.line_parse.specs.declared.command.Command.{Command}
 use Rattle.line_parse.specs.declared.command.Command.the-variants.{Open, Book, Poll, Read, List as ListAll, Bad}

@@ -1,6 +1,6 @@
 -- Laws of a search that counts up: what is left to search at i, that what is found is the first, and what `all` and `any` say.
 use mathlib.Core.Path.{_≡_, refl, sym, ap, _∙_}
-use mathlib.Core.Bool.{Bool, true, false, not, true≢false}
+use mathlib.Core.Bool.{Bool, true, false, not, true≢false, false≢true}
 use mathlib.Core.Logic.{⊎-elim}
 use Prim.Native.Nat.{ℕ, zero, suc, _+_, _-_, _<_, _≤_}
 use native.Mathlib.Numerals.{add-one}
@@ -108,6 +108,19 @@ first-unique p n i h t before = go (decLt (first p n) i)
     go : Dec (first p n < i) → first p n ≡ i
     go (yes l) = absurd (true≢false (sym (first-hit p n (omega arith)) ∙ before (first p n) l))
     go (no l) = omega (arith, first-reaches p n i t)
+
+-- tests that agree find the same
+pub firstFrom-same : (p q : ℕ → Bool) (i k : ℕ) → ((j : ℕ) → i ≤ j → j < i + k → p j ≡ q j) → firstFrom p i k ≡ firstFrom q i k
+unfolding firstFrom
+firstFrom-same p q i zero h = refl
+firstFrom-same p q i (suc k) h =
+    go (p i) (q i) (h i (omega arith) (omega arith)) (firstFrom-same p q (suc i) k (λ j l u. h j (omega arith) (omega arith)))
+  where
+    go : (a b : Bool) {x y : ℕ} → a ≡ b → x ≡ y → _≡_ {A = ℕ} (elim a [ true ↦ i | false ↦ x ]) (elim b [ true ↦ i | false ↦ y ])
+    go true true e r = refl
+    go true false e r = absurd (true≢false e)
+    go false true e r = absurd (false≢true e)
+    go false false e r = r
 
 -- ---- all, any
 

@@ -9,7 +9,9 @@ use native.Mathlib.Decide.{decLt, ℕ-discrete}
 use native.Mathlib.Omega.{arith}
 use lib.Dec.{ltb, eqb}
 use borrow.Author.Tests.{lt-ltb, eq-eqb, ne-eqb}
+use Rattle.loops.specs.Search.{first}
 use Rattle.loops.specs.Total.{bit, total, count, greatest}
+use Rattle.loops.proofs.Search.{first-unique}
 
 -- ---- bits
 
@@ -64,6 +66,16 @@ pub total-le : (f g : ℕ → ℕ) (n : ℕ) → ((i : ℕ) → i < n → f i �
 unfolding total
 total-le f g zero h = omega arith
 total-le f g (suc n) h = omega (arith, total-le f g n (λ i l. h i (omega arith)), h n (omega arith))
+
+-- a sum so far, with its next number, is no more than the whole
+pub total-within : (f : ℕ → ℕ) (n j : ℕ) → j < n → total f j + f j ≤ total f n
+unfolding total
+total-within f zero j l = absurd (omega arith)
+total-within f (suc n) j l =
+    ⊎-elim
+    (λ (q : j ≡ n). rw q (omega arith))
+    (λ (q : j < n). omega (arith, total-within f n j q))
+    (eq-or-lt-of-le (le-of-suc-le-suc l))
 
 -- parts past m that are 0 add nothing
 pub total-cut : (f : ℕ → ℕ) (m k : ℕ) → ((i : ℕ) → m ≤ i → i < m + k → f i ≡ 0) → total f (m + k) ≡ total f m
@@ -173,6 +185,17 @@ count-values f n m h =
       arith,
       values-total f n m h,
       total-le (λ i. count (λ o. eqb (f i) (suc o)) m) (λ i. bit (ltb 0 (f i))) n (λ i l. value-once (f i) m),
+    )
+
+-- so distinct values below m are no more than m
+pub distinct-most : (f : ℕ → ℕ) (n m : ℕ) → ((i : ℕ) → i < n → f i < m) → ((i j : ℕ) → i < j → j < n → f i ≢ f j) → n ≤ m
+distinct-most f n m below differ =
+    -- one more than the number that has the value
+    let g : ℕ → ℕ = λ v. suc (first (λ i. eqb (f i) v) n) in
+    omega (
+      arith,
+      count-values g m n (λ i u. (f i, below i u, ap suc (first-unique (λ j. eqb (f j) (f i)) n i u (eq-eqb (f i) (f i) refl) (λ j l. ne-eqb (f j) (f i) (differ j i l u))))),
+      count-le (λ v. ltb 0 (g v)) m,
     )
 
 -- ---- the greatest

@@ -28,11 +28,13 @@ use Rattle.rules.specs.Poll.{polled}
 use Rattle.rules.specs.Readings.{readingOf}
 use Rattle.rules.specs.Listing.{listCall}
 use Rattle.rules.specs.Calls.{openAnswer, openCall, testOf, tested, bookAnswer, bookCall, askedOf, pollAnswer, pollCall, readingCall}
+use Rattle.day_file.specs.Bytes.{dayFile}
+use Rattle.day_file.specs.Calls.{laid, writeFirstAnswer, writeFirstCall}
 use Rattle.rule_laws.proofs.Sound.{tests→Sound, header-kept, record-kept, slot-kept}
 use Rattle.rule_laws.proofs.RowRules.{Rules→headerGood, recordRow→Rules, Rules→recordRow, slotGood→Rules, Rules→slotGood}
-use Rattle.rule_laws.proofs.Calls.{leaves-answer}
+use Rattle.rule_laws.proofs.Calls.{leaves-answer, handsOver-answer}
 use Rattle.rule_laws.proofs.Tested.{tested-in-order}
-use Rattle.promises.specs.Run.{Call, Open, Book, Poll, Ask, outcomeOf}
+use Rattle.promises.specs.Run.{Call, Open, Book, Poll, Ask, WriteFirst, outcomeOf}
 use Rattle.promises.specs.Damage.{SoundByRows, Lowest, NamesDamage, DamageNamed}
 
 pub sound-by-rows : SoundByRows
@@ -135,12 +137,18 @@ poll-names w name votes =
 reading-names : (f : ℕ → ℤ) (w : List ℕ) (name : ℕ) → NamesDamage w (number (readingCall f w name)) (value (readingCall f w name))
 reading-names f w name = tested-names w _ (other-asked (lookUp w name) _ (λ i. refl))
 
+write-names : (w buffer : List ℕ) → NamesDamage w (number (writeFirstCall w buffer .answer)) (value (writeFirstCall w buffer .answer))
+unfolding writeFirstCall
+write-names w buffer =
+    rw (handsOver-answer (writeFirstAnswer testOf w buffer) w buffer (laid (dayFile w) buffer)) (tested-names w _ (simp (other-cond, both-true)))
+
 calls-name : (c : Call) (w : List ℕ) → NamesDamage w (number (outcomeOf c w .answer)) (value (outcomeOf c w .answer))
 unfolding outcomeOf
 calls-name (Open s) w = open-names w s
 calls-name (Book name slot parents) w = book-names w name slot parents
 calls-name (Poll name votes) w = poll-names w name votes
 calls-name (Ask what name) w = reading-names (readingOf what w) w name
+calls-name (WriteFirst buffer) w = write-names w buffer
 
 list-names : (w : List ℕ) → NamesDamage w (number (listCall w)) (value (listCall w))
 unfolding listCall

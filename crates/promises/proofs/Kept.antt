@@ -8,10 +8,10 @@ use Rattle.rules.specs.Book.{lookUp, numberOf}
 use Rattle.rules.specs.Calls.{openCall, bookCall, pollCall}
 use Rattle.rules.specs.Sound.{Ledger}
 use Rattle.rule_laws.proofs.Opened.{opened-ledger}
-use Rattle.promises.specs.Run.{Call, Open, Book, Poll, Ask, outcomeOf, isTaken}
+use Rattle.promises.specs.Run.{Call, Open, Book, Poll, Ask, WriteFirst, outcomeOf, isTaken}
 use Rattle.promises.specs.Soundness.{OpenedSound, SoundKept}
 use Rattle.promises.specs.Lasting.{Grown, opens, BookingsLast, AncestryLasts}
-use Rattle.promises.proofs.Taken.{open-taken, open-kept, book-taken, book-kept, poll-taken, poll-kept}
+use Rattle.promises.proofs.Taken.{open-taken, open-kept, book-taken, book-kept, poll-taken, poll-kept, write-words}
 use Rattle.promises.proofs.Booked.{booked-ledger, booked-grown}
 use Rattle.promises.proofs.Polled.{polled-ledger, polled-grown}
 use Rattle.promises.proofs.Grown.{grown-self, ancestry-grown, reaches-grown}
@@ -49,6 +49,7 @@ call-kept (Open s) w n l = absurd (true≢false n)
 call-kept (Book name slot parents) w n l = kept-book w name slot parents (isTaken (bookCall w name slot parents .answer)) refl l
 call-kept (Poll name votes) w n l = kept-poll w name votes (isTaken (pollCall w name votes .answer)) refl l
 call-kept (Ask what name) w n l = kept-self w l
+call-kept (WriteFirst buffer) w n l = kept-words (write-words w buffer) (kept-self w l)
 
 -- ---- the promises
 
@@ -67,6 +68,7 @@ sound-kept (Open s) w l = open-sound w s (isTaken (openCall w s .answer)) refl l
 sound-kept (Book name slot parents) w l = call-kept (Book name slot parents) w refl l .ledger
 sound-kept (Poll name votes) w l = call-kept (Poll name votes) w refl l .ledger
 sound-kept (Ask what name) w l = l
+sound-kept (WriteFirst buffer) w l = call-kept (WriteFirst buffer) w refl l .ledger
 
 pub bookings-last : BookingsLast
 unfolding BookingsLast

@@ -20,3 +20,4 @@ pub mod Polled
 pub mod Run
 pub mod Kept
 pub mod Told
+pub mod DayFile

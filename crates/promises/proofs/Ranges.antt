@@ -7,6 +7,7 @@ use Prim.Native.Nat.{ℕ, _<_, _≤_}
 use native.Mathlib.Decide.{ℕ-discrete}
 use native.Mathlib.Omega.{arith}
 use lib.IntN.{ℤ, pos, natAbs}
+use lib.ListN.{length}
 use Rattle.loops.specs.Total.{bit}
 use Rattle.terms.specs.declared.answer.Answer.{Answer}
 use Rattle.terms.specs.declared.answer.Answer.the-variants.{Taken, Refused}
@@ -19,13 +20,15 @@ use Rattle.rules.specs.Sound.{Ledger}
 use Rattle.rule_laws.proofs.Calls.{refusalNumber-within, number-refused, value-refused}
 use Rattle.rule_laws.proofs.Lookup.{found-below}
 use Rattle.rule_laws.proofs.Readings.{query-le, accepted-le, confidence-le, lead-le, size-least, size-most}
+use Rattle.day_file.specs.Bytes.{dayFile}
+use Rattle.day_file.proofs.Lengths.{dayFile-least, dayFile-most}
 use Rattle.promises.specs.Run.{outcomeOf}
 use Rattle.promises.specs.Damage.{NamesDamage}
 use Rattle.promises.specs.Ranges.{Between, Ranges}
 use Rattle.promises.proofs.Damage.{damage-named}
-use Rattle.promises.proofs.Taken.{reading-taken}
+use Rattle.promises.proofs.Taken.{reading-taken, write-taken}
 
-number-le : (a : Answer) → number a ≤ 15
+number-le : (a : Answer) → number a ≤ 16
 number-le (Taken v) = omega arith
 number-le (Refused r) = refusalNumber-within r .1
 
@@ -84,4 +87,7 @@ ranges = record {
       (λ i ledger h.
       between _ _ (sizeOf w i) (omega (arith, size-least w (ledger .sound) i h)) (omega (arith, size-most w (ledger .sound) i, ledger .sound .bookingsMost)))
       taken;
+  writing = λ w buffer taken.
+      let file = write-taken w buffer taken in
+      rw (file .1) (between _ _ (length (dayFile w)) (omega (arith, dayFile-least w (file .0))) (omega (arith, dayFile-most w (file .0))));
 }

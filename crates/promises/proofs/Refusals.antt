@@ -32,6 +32,8 @@ use Rattle.rules.specs.Book.{lookUp, isFound, isAbsent, numberOf, parentFound, 
 use Rattle.rules.specs.Poll.{polled}
 use Rattle.rules.specs.Readings.{readingOf}
 use Rattle.rules.specs.Listing.{listCall}
+use Rattle.day_file.specs.Bytes.{dayFile}
+use Rattle.day_file.specs.Calls.{laid, writeFirstAnswer, writeFirstCall}
 use Rattle.rules.specs.Calls.{
   openAnswer,
   openCall,
@@ -45,14 +47,15 @@ use Rattle.rules.specs.Calls.{
   readingCall,
   readCall,
 }
-use Rattle.rule_laws.proofs.Calls.{leaves-answer, value-refused, open-refused, book-refused, poll-refused}
+use Rattle.rule_laws.proofs.Calls.{leaves-answer, handsOver-answer, value-refused, open-refused, book-refused, poll-refused}
 use Rattle.rule_laws.proofs.Good.{isGood→Good, Good→isGood}
 use Rattle.rule_laws.proofs.RowRules.{headerGood→Rules, Rules→headerGood, recordRow→Rules, Rules→recordRow, slotGood→Rules, Rules→slotGood}
 use Rattle.rule_laws.proofs.Sound.{tests→Sound}
 use Rattle.rule_laws.proofs.Tested.{tested-in-order}
 use Rattle.rule_laws.proofs.Lookup.{found-below, found-name, absent-name, found-is}
-use Rattle.promises.specs.Run.{Open, Book, Poll, Ask, outcomeOf}
+use Rattle.promises.specs.Run.{Open, Book, Poll, Ask, WriteFirst, outcomeOf, lentAfter}
 use Rattle.promises.specs.Damage.{Broken}
+use Rattle.promises.proofs.Taken.{write-words, write-refused}
 use Rattle.promises.specs.Refusals.{
   RefusedKeeps,
   Booked,
@@ -66,6 +69,7 @@ use Rattle.promises.specs.Refusals.{
   BookListed,
   PollListed,
   ReadingListed,
+  WriteListed,
   ListListed,
   RefusedListed,
 }
@@ -73,11 +77,12 @@ use Rattle.promises.specs.Refusals.{
 -- ---- a refused call changes nothing
 
 pub refused-keeps : RefusedKeeps
-unfolding RefusedKeeps outcomeOf
-refused-keeps (Open s) w h = let kept = open-refused w s h in (kept .words, kept .value)
-refused-keeps (Book name slot parents) w h = let kept = book-refused w name slot parents h in (kept .words, kept .value)
-refused-keeps (Poll name votes) w h = let kept = poll-refused w name votes h in (kept .words, kept .value)
-refused-keeps (Ask what name) w h = (refl, value-refused (readCall what w name) h)
+unfolding RefusedKeeps outcomeOf lentAfter
+refused-keeps (Open s) w h = let kept = open-refused w s h in (kept .words, kept .value, refl)
+refused-keeps (Book name slot parents) w h = let kept = book-refused w name slot parents h in (kept .words, kept .value, refl)
+refused-keeps (Poll name votes) w h = let kept = poll-refused w name votes h in (kept .words, kept .value, refl)
+refused-keeps (Ask what name) w h = (refl, value-refused (readCall what w name) h, refl)
+refused-keeps (WriteFirst buffer) w h = (write-words w buffer, value-refused (writeFirstCall w buffer .answer) h, write-refused w buffer h)
 
 -- ---- a test that tells whether a case applies
 
@@ -274,6 +279,13 @@ reading-listed f w name =
     asked-first (lookUp w name) _ e (found-decides w name) (λ i found e.
     e))
 
+write-listed : (w buffer : List ℕ) → WriteListed w buffer (number (writeFirstCall w buffer .answer))
+unfolding writeFirstCall
+write-listed w buffer =
+    tested-first w _ (ap number (handsOver-answer (writeFirstAnswer testOf w buffer) w buffer (laid (dayFile w) buffer))) (λ sound e.
+    refused-first Refusal.ShortBuffer _ _ e (less-decides (length buffer) (length (dayFile w))) (λ t e.
+    e))
+
 list-listed : (w : List ℕ) → ListListed w (number (listCall w))
 unfolding listCall
 list-listed w = tested-first w done refl (λ sound e. e)
@@ -285,5 +297,6 @@ refused-listed =
       booking = book-listed;
       polling = poll-listed;
       reading = λ what w. reading-listed (readingOf what w) w;
+      writing = write-listed;
       list = list-listed;
     }

@@ -26,6 +26,7 @@ use Rattle.promises.specs.Run.{
   Book,
   Poll,
   Ask,
+  WriteFirst,
   outcomeOf,
   isTaken,
   History,
@@ -41,7 +42,7 @@ use Rattle.promises.specs.Run.{
 use Rattle.promises.specs.Soundness.{RunSound}
 use Rattle.promises.specs.Confidence.{Counted, none, counts, passes, sizes, ConfidenceIsCounted, TotalIsSummed, PreferredIsMost}
 use Rattle.promises.specs.Lasting.{Grown, PollsAreCounted}
-use Rattle.promises.proofs.Taken.{Bookable, Pollable, Led, open-taken, open-kept, book-taken, book-kept, poll-taken, poll-kept}
+use Rattle.promises.proofs.Taken.{Bookable, Pollable, Led, open-taken, open-kept, book-taken, book-kept, poll-taken, poll-kept, write-words}
 use Rattle.promises.proofs.BookedWords.{bookings-booked, polls-booked, confidenceOf-booked-same}
 use Rattle.promises.proofs.BookedRecords.{confidenceOf-booked-old}
 use Rattle.promises.proofs.Booked.{booked-ledger, booked-grown, booked-led}
@@ -227,6 +228,7 @@ step-right (Poll name votes) w h right =
     (λ t. let o = poll-taken w name votes t in right-words (o .2) (polled-right w h right (numberOf (lookUp w name)) votes (o .1)))
     (λ f. right-words (poll-kept w name votes f) right)
 step-right (Ask what name) w h right = right
+step-right (WriteFirst buffer) w h right = right-words (write-words w buffer) right
 
 run-right : (calls : List Call) (t : Station) → Right (t .words) (t .history) → Right (run calls t .words) (run calls t .history)
 unfolding run

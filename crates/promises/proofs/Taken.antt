@@ -1,12 +1,12 @@
 -- What a taken call has passed: each of its tests failed, so the fact that each refusal would deny holds, and its words are the rule's.
--- What a refused call leaves: every word. Assumes nothing.
+-- What a refused call leaves: every word, and every byte. What writing leaves in any case: every word. Assumes nothing.
 use mathlib.Core.Path.{_≡_, refl, sym, ap}
 use mathlib.Core.Bool.{Bool, true, false, cond, true≢false}
 use mathlib.Core.List.{List}
 use mathlib.Core.Logic.{_≢_}
 use Prim.Native.Nat.{ℕ, _<_, _≤_}
 use native.Mathlib.Omega.{arith}
-use lib.IntN.{ℤ}
+use lib.IntN.{ℤ, pos}
 use lib.ListN.{length, getD}
 use lib.Dec.{eqb, leb, ltb}
 use borrow.Author.Tests.{eqb-true, eqb-false, leb-false, ltb-false, not-false}
@@ -29,7 +29,9 @@ use Rattle.rules.specs.Open.{opened}
 use Rattle.rules.specs.Book.{lookUp, numberOf, hasUnknown, hasTwice, booked}
 use Rattle.rules.specs.Poll.{polled}
 use Rattle.rules.specs.Calls.{openAnswer, openCall, testOf, unlessStopped, tested, bookAnswer, bookCall, askedOf, pollAnswer, pollCall, readingCall}
-use Rattle.rule_laws.proofs.Calls.{number-refused, open-refused, book-refused, poll-refused}
+use Rattle.day_file.specs.Bytes.{dayFile}
+use Rattle.day_file.specs.Calls.{laid, writeFirstAnswer, writeFirstCall}
+use Rattle.rule_laws.proofs.Calls.{handsOver-answer, handsOver-words, handsOver-refused, number-refused, open-refused, book-refused, poll-refused}
 use Rattle.rule_laws.proofs.Good.{isGood→Good}
 use Rattle.rule_laws.proofs.Tested.{fine-ledger}
 use Rattle.rule_laws.proofs.Lookup.{isFound-false, absent-name, found-below}
@@ -78,6 +80,15 @@ book-kept w name slot parents e = book-refused w name slot parents (untaken (boo
 pub poll-kept : (w : List ℕ) (name : ℕ) (votes : List ℕ) → isTaken (pollCall w name votes .answer) ≡ false → pollCall w name votes .words ≡ w
 poll-kept w name votes e = poll-refused w name votes (untaken (pollCall w name votes .answer) e) .words
 
+pub write-refused : (w buffer : List ℕ) → number (writeFirstCall w buffer .answer) ≢ 0 → writeFirstCall w buffer .lent ≡ buffer
+unfolding writeFirstCall
+write-refused w buffer = handsOver-refused (writeFirstAnswer testOf w buffer) w buffer _
+
+-- writing changes no word, taken or refused
+pub write-words : (w buffer : List ℕ) → writeFirstCall w buffer .words ≡ w
+unfolding writeFirstCall
+write-words w buffer = handsOver-words (writeFirstAnswer testOf w buffer) w buffer _
+
 -- ---- the tests that a taken call has passed
 
 module _ {v : ℤ} where
@@ -102,7 +113,7 @@ unfolding hasTwice
 distinct-names parents e a b l h =
     eqb-false _ _ (none→ (λ c. eqb (getD parents c 0) (getD parents b 0)) b (none→ (λ d. any (λ c. eqb (getD parents c 0) (getD parents d 0)) d) (length parents) e b h) a l)
 
--- ---- open, book, poll and the readings, taken
+-- ---- open, book, poll, the readings and writing, taken
 
 pub open-taken : (w : List ℕ) (s : Setting) → isTaken (openCall w s .answer) ≡ true → (length w ≡ size) × Good s × (openCall w s .words ≡ opened s)
 unfolding openCall
@@ -156,3 +167,16 @@ reading-taken f w name v e =
     let ledger = tested-passed w _ e in
     let found = asked-passed (lookUp w name) _ (ledger .1) in
     (ledger .0, found .0, ap value (found .1))
+
+pub write-taken : (w buffer : List ℕ) → number (writeFirstCall w buffer .answer) ≡ 0
+    → Ledger w × (value (writeFirstCall w buffer .answer) ≡ pos (length (dayFile w)))
+unfolding writeFirstCall
+write-taken w buffer =
+    rw (handsOver-answer (writeFirstAnswer testOf w buffer) w buffer (laid (dayFile w) buffer)) (go (writeFirstAnswer testOf w buffer) refl)
+  where
+    go : (a : Answer) → writeFirstAnswer testOf w buffer ≡ a → number a ≡ 0 → Ledger w × (value a ≡ pos (length (dayFile w)))
+    go (Taken v) e z =
+        let ledger = tested-passed w _ e in
+        let room = passed (ltb (length buffer) (length (dayFile w))) _ _ (ledger .1) in
+        (ledger .0, ap value (sym (room .1)))
+    go (Refused r) e z = absurd (number-refused r z)

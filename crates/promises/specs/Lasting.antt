@@ -7,7 +7,7 @@ use Prim.Native.Nat.{ℕ, _<_, _≤_}
 use Rattle.rules.specs.Layout.{bookings, polls, mostParents, nameOf, slotOf, parentOf}
 use Rattle.rules.specs.Ancestry.{Reaches, ancestry}
 use Rattle.rules.specs.Sound.{Ledger}
-use Rattle.promises.specs.Run.{Call, Open, Book, Poll, Ask, outcomeOf, Opening, after}
+use Rattle.promises.specs.Run.{Call, Open, Book, Poll, Ask, WriteFirst, outcomeOf, Opening, after}
 
 -- whether the call is an opening
 abbrev pub opens : Call → Bool
@@ -15,6 +15,7 @@ opens (Open s) = true
 opens (Book name slot parents) = false
 opens (Poll name votes) = false
 opens (Ask what name) = false
+opens (WriteFirst buffer) = false
 
 -- what w says of its bookings, u says of them too
 pub record Grown (w u : List ℕ) : Type 0 where

@@ -8,3 +8,4 @@ pub mod Confidence
 pub mod Lasting
 pub mod Ranges
 pub mod Told
+pub mod DayFile

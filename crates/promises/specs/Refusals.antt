@@ -1,4 +1,4 @@
--- Each refusal comes exactly in its listed case, the first in the order, and changes no word. Its value is 0, or with 14 and 15 a row (Damage.antt).
+-- Each refusal comes exactly in its listed case, the first in the order, and changes no word and no byte. Its value is 0, or with 14 and 15 a row (Damage.antt).
 use mathlib.Core.Path.{_≡_}
 use mathlib.Core.List.{List}
 use mathlib.Core.Logic.{_≢_, _⊎_}
@@ -14,16 +14,19 @@ use Rattle.rules.specs.IsSound.{recordRows}
 use Rattle.rules.specs.RowRules.{HeaderRules, RecordRules, SlotRules}
 use Rattle.rules.specs.Calls.{openCall, bookCall, pollCall, readCall}
 use Rattle.rules.specs.Listing.{listCall}
-use Rattle.promises.specs.Run.{Call, outcomeOf}
+use Rattle.day_file.specs.Bytes.{dayFile}
+use Rattle.day_file.specs.Calls.{writeFirstCall}
+use Rattle.promises.specs.Run.{Call, outcomeOf, lentBy, lentAfter}
 use Rattle.promises.specs.Damage.{Broken}
 
--- ---- a refused call changes nothing, and has value 0; with 14 and 15 Damage.antt says what the value is
+-- ---- a refused call changes nothing, neither the words nor the buffer lent besides, and has value 0; with 14 and 15 Damage.antt says what the value is
 
 unfoldable pub RefusedKeeps : Type 0
 RefusedKeeps =
     (c : Call) (w : List ℕ) → number (outcomeOf c w .answer) ≢ 0
     → (outcomeOf c w .words ≡ w)
     × (number (outcomeOf c w .answer) ≢ 14 → number (outcomeOf c w .answer) ≢ 15 → value (outcomeOf c w .answer) ≡ pos 0)
+    × (lentAfter c w ≡ lentBy c)
 
 -- ---- the listed cases
 
@@ -118,6 +121,13 @@ ReadingListed w name =
     (refuses 10 (Booked w name → ⊥)
     taken)
 
+-- 16: the buffer is shorter than the file
+abbrev pub WriteListed : List ℕ → List ℕ → ℕ → Type 0
+WriteListed w buffer =
+    testedListed w
+    (refuses 16 (length buffer < length (dayFile w))
+    taken)
+
 -- list may be refused with 1, 2, 14 or 15 only
 abbrev pub ListListed : List ℕ → ℕ → Type 0
 ListListed w =
@@ -129,4 +139,5 @@ pub record RefusedListed : Type 0 where
   pub booking : (w : List ℕ) (name slot : ℕ) (parents : List ℕ) → BookListed w name slot parents (number (bookCall w name slot parents .answer))
   pub polling : (w : List ℕ) (name : ℕ) (votes : List ℕ) → PollListed w name votes (number (pollCall w name votes .answer))
   pub reading : (what : Reading) (w : List ℕ) (name : ℕ) → ReadingListed w name (number (readCall what w name))
+  pub writing : (w buffer : List ℕ) → WriteListed w buffer (number (writeFirstCall w buffer .answer))
   pub list : (w : List ℕ) → ListListed w (number (listCall w))

@@ -11,13 +11,15 @@ use Rattle.terms.specs.Answers.{Outcome, outcome}
 use Rattle.rules.specs.Book.{lookUp, numberOf}
 use Rattle.rules.specs.Poll.{isSuccess}
 use Rattle.rules.specs.Calls.{openCall, bookCall, pollCall, readCall}
+use Rattle.day_file.specs.Calls.{writeFirstCall}
 
--- the eight calls: five of them are readings
+-- the nine calls: five of them are readings
 pub data Call : Type 0 where
   Open : Setting → Call
   Book : (name slot : ℕ) (parents : List ℕ) → Call
   Poll : (name : ℕ) (votes : List ℕ) → Call
   Ask : (what : Reading) (name : ℕ) → Call
+  WriteFirst : (buffer : List ℕ) → Call
 
 -- what a call gives on the words w
 unfoldable pub outcomeOf : Call → List ℕ → Outcome
@@ -25,6 +27,25 @@ outcomeOf (Open s) w = openCall w s
 outcomeOf (Book name slot parents) w = bookCall w name slot parents
 outcomeOf (Poll name votes) w = pollCall w name votes
 outcomeOf (Ask what name) w = outcome (readCall what w name) w
+outcomeOf (WriteFirst buffer) w = outcome (writeFirstCall w buffer .answer) (writeFirstCall w buffer .words)
+
+-- ---- one call is lent a buffer to write into, beside the words; for the others it is empty
+
+-- what stood in it before the call
+abbrev pub lentBy : Call → List ℕ
+lentBy (Open s) = []
+lentBy (Book name slot parents) = []
+lentBy (Poll name votes) = []
+lentBy (Ask what name) = []
+lentBy (WriteFirst buffer) = buffer
+
+-- what a call on the words w leaves in it
+unfoldable pub lentAfter : Call → List ℕ → List ℕ
+lentAfter (Open s) w = []
+lentAfter (Book name slot parents) w = []
+lentAfter (Poll name votes) w = []
+lentAfter (Ask what name) w = []
+lentAfter (WriteFirst buffer) w = writeFirstCall w buffer .lent
 
 abbrev pub isTaken : Answer → Bool
 isTaken (Taken v) = true
@@ -51,6 +72,7 @@ historyAfter (Book name slot parents) w h = h
 historyAfter (Poll name votes) w h =
     cond (isTaken (pollCall w name votes .answer)) (withPoll (isSuccess w votes) (numberOf (lookUp w name)) h) h
 historyAfter (Ask what name) w h = h
+historyAfter (WriteFirst buffer) w h = h
 
 -- ---- runs
 

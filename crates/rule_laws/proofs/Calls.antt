@@ -1,5 +1,5 @@
 -- Refused calls leave every word and have value 0 unless they name a row; a taken open, book or poll has value 0.
--- `leaves` hands the words before back in the one arm that a refusal takes, so each call cites one law. Assumes nothing.
+-- `leaves` hands the words before back in the one arm that a refusal takes, and `handsOver` the bytes, so each call cites one law. Assumes nothing.
 use mathlib.Core.Path.{_≡_, refl, ap}
 use mathlib.Core.Bool.{Bool, true, false, cond}
 use mathlib.Core.List.{List}
@@ -25,6 +25,7 @@ use Rattle.terms.specs.declared.answer.Refusal.the-variants.{
   BadVote,
   DamagedRecord,
   DamagedSlot,
+  ShortBuffer,
 }
 use Rattle.terms.specs.declared.answer.Found.{Found}
 use Rattle.terms.specs.declared.answer.Found.the-variants.{At, Absent}
@@ -32,13 +33,13 @@ use Rattle.terms.specs.declared.answer.Tested.{Tested}
 use Rattle.terms.specs.declared.answer.Tested.the-variants.{Fine, Stop}
 use Rattle.terms.specs.declared.answer.Answer.{Answer}
 use Rattle.terms.specs.declared.answer.Answer.the-variants.{Taken, Refused}
-use Rattle.terms.specs.Answers.{refusalNumber, refusalRow, number, value, Outcome, leaves}
+use Rattle.terms.specs.Answers.{refusalNumber, refusalRow, number, value, Outcome, leaves, handsOver}
 use Rattle.rules.specs.Calls.{openAnswer, openCall, testOf, unlessStopped, bookAnswer, bookCall, pollAnswer, pollCall, askedOf}
 
 -- ---- the number tells a refusal from a taken call
 
--- a refusal's number is 1 to 15
-pub refusalNumber-within : (r : Refusal) → (1 ≤ refusalNumber r) × (refusalNumber r ≤ 15)
+-- a refusal's number is 1 to 16
+pub refusalNumber-within : (r : Refusal) → (1 ≤ refusalNumber r) × (refusalNumber r ≤ 16)
 refusalNumber-within WrongLength = omega arith
 refusalNumber-within DamagedHeader = omega arith
 refusalNumber-within BadSetting = omega arith
@@ -54,6 +55,7 @@ refusalNumber-within WrongVotes = omega arith
 refusalNumber-within BadVote = omega arith
 refusalNumber-within (DamagedRecord row) = omega arith
 refusalNumber-within (DamagedSlot row) = omega arith
+refusalNumber-within ShortBuffer = omega arith
 
 pub number-refused : (r : Refusal) → number (Refused r) ≢ 0
 number-refused r e = omega (arith, refusalNumber-within r .0)
@@ -62,6 +64,15 @@ number-refused r e = omega (arith, refusalNumber-within r .0)
 pub leaves-answer : (a : Answer) (before after : List ℕ) → leaves a before after .answer ≡ a
 leaves-answer (Taken v) before after = refl
 leaves-answer (Refused r) before after = refl
+
+-- and so does one that hands bytes over, which changes no word
+pub handsOver-answer : (a : Answer) (words before after : List ℕ) → handsOver a words before after .answer ≡ a
+handsOver-answer (Taken v) words before after = refl
+handsOver-answer (Refused r) words before after = refl
+
+pub handsOver-words : (a : Answer) (words before after : List ℕ) → handsOver a words before after .words ≡ words
+handsOver-words (Taken v) words before after = refl
+handsOver-words (Refused r) words before after = refl
 
 -- ---- refused
 
@@ -82,6 +93,7 @@ row-other WrongVotes h k = refl
 row-other BadVote h k = refl
 row-other (DamagedRecord row) h k = absurd (h refl)
 row-other (DamagedSlot row) h k = absurd (k refl)
+row-other ShortBuffer h k = refl
 
 -- the value of a refused call that names no row
 abbrev pub Valueless : Answer → Type 0
@@ -111,6 +123,12 @@ book-refused w name slot parents = leaves-refused (bookAnswer testOf w name slot
 pub poll-refused : (w : List ℕ) (name : ℕ) (votes : List ℕ) → number (pollCall w name votes .answer) ≢ 0 → Unmoved w (pollCall w name votes)
 unfolding pollCall
 poll-refused w name votes = leaves-refused (pollAnswer testOf w name votes) w _
+
+-- one that hands bytes over leaves every byte too
+pub handsOver-refused : (a : Answer) (words before after : List ℕ) → number (handsOver a words before after .answer) ≢ 0
+    → handsOver a words before after .lent ≡ before
+handsOver-refused (Taken v) words before after h = absurd (h refl)
+handsOver-refused (Refused r) words before after h = refl
 
 -- ---- a taken open, book or poll has value 0
 

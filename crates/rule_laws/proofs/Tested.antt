@@ -15,7 +15,7 @@ use Rattle.terms.specs.declared.answer.Tested.{Tested}
 use Rattle.terms.specs.declared.answer.Tested.the-variants.{Fine, Stop}
 use Rattle.terms.specs.declared.answer.Answer.{Answer}
 use Rattle.terms.specs.declared.answer.Answer.the-variants.{Taken, Refused}
-use Rattle.terms.specs.Answers.{outcome, leaves}
+use Rattle.terms.specs.Answers.{outcome, leaves, handover, handsOver}
 use Rattle.rules.specs.Layout.{size, slots}
 use Rattle.rules.specs.IsSound.{headerGood, recordRow, recordRows, badRecord, slotGood, badSlot}
 use Rattle.rules.specs.Sound.{Ledger}
@@ -49,6 +49,11 @@ stop-tested w r rest e = ap (λ t. unlessStopped t rest) e
 -- a writing call that is stopped leaves every word
 pub stop-leaves : (w after : List ℕ) (r : Refusal) (rest : Answer) → testOf w ≡ Stop r → leaves (tested testOf w rest) w after ≡ outcome (Refused r) w
 stop-leaves w after r rest e = ap (λ a. leaves a w after) (stop-tested w r rest e)
+
+-- and one that hands bytes over every byte
+pub stop-hands-over : (w words before after : List ℕ) (r : Refusal) (rest : Answer) → testOf w ≡ Stop r
+    → handsOver (tested testOf w rest) words before after ≡ handover (Refused r) words before
+stop-hands-over w words before after r rest e = ap (λ a. handsOver a words before after) (stop-tested w r rest e)
 
 -- ---- the damage, case by case
 

@@ -9,11 +9,10 @@ use native.Mathlib.Omega.{arith}
 use lib.Dec.{leb, eqb}
 use borrow.Author.Tests.{lt-ltb, le-ltb, eq-eqb, not-false}
 use Rattle.loops.specs.Search.{first}
-use Rattle.loops.proofs.Search.{first-le, first-hit, first-before, first-unique}
+use Rattle.loops.proofs.Search.{first-le, first-hit, first-before, first-unique, firstFrom-same}
 use Rattle.rules.specs.Layout.{mostBookings, bookings}
 use Rattle.rules.specs.IsSound.{recordGood, ordinalsHeld, recordZero, recordRow, recordRows, badRecord}
 use Rattle.sound.specs.Rest.{isClear}
-use Rattle.sound.proofs.Searches.{firstFrom-same}
 
 -- the lowest record below n that breaks a rule, or n
 abbrev pub lowestBelow : List ℕ → ℕ

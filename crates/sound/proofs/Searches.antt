@@ -1,15 +1,15 @@
 -- What a search that ran to its end says, a search over one number more, and one that starts where everything before fails.
 use mathlib.Core.Path.{_≡_, refl, ap, _∙_}
-use mathlib.Core.Bool.{Bool, true, false, not, _||_, true≢false, false≢true}
+use mathlib.Core.Bool.{Bool, true, false, not, _||_}
 use mathlib.Core.Logic.{⊎-elim}
-use Prim.Native.Nat.{ℕ, zero, suc, _+_, _<_, _≤_}
+use Prim.Native.Nat.{ℕ, zero, suc, _<_, _≤_}
 use native.Mathlib.Numerals.{add-one}
 use native.Mathlib.Nat.{eq-or-lt-of-le, le-of-suc-le-suc}
 use native.Mathlib.Omega.{arith}
 use lib.Dec.{eqb}
 use borrow.Author.Tests.{eq-eqb}
-use Rattle.loops.specs.Search.{firstFrom, any, all}
-use Rattle.loops.proofs.Search.{Searched, search-start, search-miss, search-over, any→, →any, none→, →none}
+use Rattle.loops.specs.Search.{any, all}
+use Rattle.loops.proofs.Search.{Searched, search-start, search-miss, search-over, firstFrom-same, any→, →any, none→, →none}
 
 module _ (p : ℕ → Bool) (n i : ℕ) where
   pub search-all : Searched (λ j. not (p j)) n i → i ≡ n → all p n ≡ true
@@ -32,19 +32,7 @@ search-from p n zero h fails = search-start p n
 search-from p n (suc m) h fails =
     rw (← add-one m) (search-miss p n m (search-from p n m (omega arith) (λ j l. fails j (omega arith))) h (fails m (omega arith)))
 
--- tests that agree below n find the same
-pub firstFrom-same : (p q : ℕ → Bool) (i k : ℕ) → ((j : ℕ) → i ≤ j → j < i + k → p j ≡ q j) → firstFrom p i k ≡ firstFrom q i k
-unfolding firstFrom
-firstFrom-same p q i zero h = refl
-firstFrom-same p q i (suc k) h =
-    go (p i) (q i) (h i (omega arith) (omega arith)) (firstFrom-same p q (suc i) k (λ j l u. h j (omega arith) (omega arith)))
-  where
-    go : (a b : Bool) {x y : ℕ} → a ≡ b → x ≡ y → _≡_ {A = ℕ} (elim a [ true ↦ i | false ↦ x ]) (elim b [ true ↦ i | false ↦ y ])
-    go true true e r = refl
-    go true false e r = absurd (true≢false e)
-    go false true e r = absurd (false≢true e)
-    go false false e r = r
-
+-- tests that agree below n all pass alike
 pub all-same : (p q : ℕ → Bool) (n : ℕ) → ((j : ℕ) → j < n → p j ≡ q j) → all p n ≡ all q n
 all-same p q n h =
     ap (λ (k : ℕ). eqb k n) (firstFrom-same (λ j. not (p j)) (λ j. not (q j)) 0 n (λ j l u. ap not (h j (omega arith))))

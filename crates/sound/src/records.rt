@@ -22,7 +22,7 @@ pub(crate) fn chits(w: &[u16], n: usize) -> usize
 {
     let mut found = 0;
     for i in 0..n {
-        found += sound_rows::record::chit(w, i);
+        found += words::chit(w, i);
     }
     found
 }

@@ -5,9 +5,7 @@ use terms::vote::State;
 ghost use mathlib.Core.Path.{_≡_};
 ghost use Prim.Native.Nat.{_<_};
 ghost use lib.ListN.{length};
-ghost use lib.Dec.{eqb};
-ghost use Rattle.loops.specs.Total.{bit};
-ghost use Rattle.rules.specs.Layout.{size, mostBookings, stateOf};
+ghost use Rattle.rules.specs.Layout.{size, mostBookings};
 ghost use Rattle.rules.specs.IsSound.{genesisGood, parentsGood, stateGood, recordZero};
 
 // What stands at a place with no parent.
@@ -58,19 +56,6 @@ pub fn state_good(w: &[u16], i: usize) -> bool
         State::NoChit => !(o == 0) & (o <= p),
         State::Chit => !(o == 0) & (o <= p),
         State::Unknown => false,
-    }
-}
-
-// 1 for a record in state 2, else 0.
-pub fn chit(w: &[u16], i: usize) -> usize
-    requires { ⌜ (length (now w) ≡ size) × (i < mostBookings) ⌝ }
-    ensures { λ r. ⌜ r ≡ bit (eqb (stateOf (now (w .entry)) i) 2) ⌝ }
-{
-    match vote::read_state(words::field(w, i, layout::STATE)) {
-        State::Waiting => 0,
-        State::NoChit => 0,
-        State::Chit => 1,
-        State::Unknown => 0,
     }
 }
 

@@ -1,9 +1,11 @@
 // THE C FACE: the calls of the ledger under names that C and Rust link, declared in include/filzhammer.h.
-// Each returns the call's number, writes its value through the last pointer, and leaves the call's words.
+// Each returns the call's number, writes its value through the last pointer, and leaves the call's words, and the call's bytes in a buffer lent
+// for them.
 use terms::answer::Answer;
 use terms::setting::Setting;
 ghost use Rattle.rules.specs.Calls.{openCall, bookCall, pollCall, queryCall, acceptedCall, leadCall, confidenceCall, sizeCall};
-ghost use Rattle.station.specs.Returned.{Returned, Handed};
+ghost use Rattle.day_file.specs.Calls.{writeFirstCall};
+ghost use Rattle.station.specs.Returned.{Returned, Handed, HandedOver};
 ghost use Rattle.terms.specs.Setting.{settingOf};
 
 // An answer as its number and its value.
@@ -89,4 +91,12 @@ pub extern "C" fn filz_size(ws: &[u16], name: u64, value: &mut i64) -> u32
     ensures { λ r. ⌜ Returned (sizeCall (now (ws .entry)) name) r (now (value .exit)) ⌝ }
 {
     tell(ledger::size(ws, name), value)
+}
+
+// The day file, in its first form, at the front of the lent bytes; no word changes. Refusals 1, 2, 14, 15, 16.
+#[no_mangle]
+pub extern "C" fn filz_write_first(ws: &[u16], out: &mut [u8], value: &mut i64) -> u32
+    ensures { λ r. ⌜ HandedOver (writeFirstCall (now (ws .entry)) (now (out .entry))) r (now (value .exit)) (now (ws .entry)) (now (out .exit)) ⌝ }
+{
+    tell(ledger::write_first(ws, out), value)
 }

@@ -19,6 +19,7 @@ use Rattle.terms.specs.declared.answer.Refusal.the-variants.{
   BadVote,
   DamagedRecord,
   DamagedSlot,
+  ShortBuffer,
 }
 use Rattle.terms.specs.declared.answer.Answer.{Answer}
 use Rattle.terms.specs.declared.answer.Answer.the-variants.{Taken, Refused}
@@ -39,6 +40,7 @@ refusalNumber WrongVotes = 12
 refusalNumber BadVote = 13
 refusalNumber (DamagedRecord row) = 14
 refusalNumber (DamagedSlot row) = 15
+refusalNumber ShortBuffer = 16
 
 -- the lowest row that breaks a rule, where a record or a slot is damaged; 0 for every other refusal
 abbrev pub refusalRow : Refusal → ℕ
@@ -57,6 +59,7 @@ refusalRow WrongVotes = 0
 refusalRow BadVote = 0
 refusalRow (DamagedRecord row) = row
 refusalRow (DamagedSlot row) = row
+refusalRow ShortBuffer = 0
 
 -- a taken call returns 0 and its value, a refusal its number and its row
 abbrev pub number : Answer → ℕ
@@ -83,3 +86,17 @@ outcome a w = record { answer = a; words = w }
 abbrev pub leaves : Answer → (before after : List ℕ) → Outcome
 leaves (Taken v) before after = outcome (Taken v) after
 leaves (Refused r) before after = outcome (Refused r) before
+
+-- what a call with a second lent buffer gives: its answer, and the words and the buffer that it leaves
+pub record Handover : Type 0 where
+  pub answer : Answer
+  pub words : List ℕ
+  pub lent : List ℕ
+
+abbrev pub handover : Answer → (words lent : List ℕ) → Handover
+handover a w b = record { answer = a; words = w; lent = b }
+
+-- a taken call that hands something over leaves it in the buffer, and a refused one the buffer as it was; no such call changes a word
+abbrev pub handsOver : Answer → (words before after : List ℕ) → Handover
+handsOver (Taken v) words before after = handover (Taken v) words after
+handsOver (Refused r) words before after = handover (Refused r) words before

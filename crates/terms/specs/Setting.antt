@@ -1,12 +1,17 @@
 -- Document 01, "Numbers that bound it": when a setting is good, and the paper's own.
 use Prim.Native.Nat.{ℕ, _*_, _≤_, _<_}
 use mathlib.Core.Bool.{Bool, _&&_}
+use mathlib.Core.List.{List, [], _∷_}
 use lib.Dec.{ltb, leb}
 use Rattle.terms.specs.declared.setting.Setting.{Setting}
 
 -- the setting that four numbers are
 abbrev pub settingOf : (k a beta1 beta2 : ℕ) → Setting
 settingOf k a beta1 beta2 = record { k = k; a = a; beta1 = beta1; beta2 = beta2 }
+
+-- and the four numbers that a setting is, in their order
+abbrev pub settingNumbers : Setting → List ℕ
+settingNumbers s = s .k ∷ s .a ∷ s .beta1 ∷ s .beta2 ∷ []
 
 -- 1 ≤ k ≤ 64, a ≤ k, 2 × a > k, 1 ≤ β1 ≤ β2 ≤ 510
 pub record Good (s : Setting) : Type 0 where

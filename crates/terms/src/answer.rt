@@ -2,7 +2,7 @@
 ghost use mathlib.Core.Path.{_≡_};
 ghost use Rattle.terms.specs.Answers.{number, refusalNumber, refusalRow, value};
 
-// Why a call was refused, in the order of the numbers 1 to 15. Damage of a record or a slot is named by the lowest
+// Why a call was refused, in the order of the numbers 1 to 16. Damage of a record or a slot is named by the lowest
 // row that breaks a rule.
 pub enum Refusal {
     WrongLength,
@@ -20,9 +20,10 @@ pub enum Refusal {
     BadVote,
     DamagedRecord(u16),
     DamagedSlot(u16),
+    ShortBuffer,
 }
 
-// Every call answers so. Open, book and poll are taken with value 0.
+// Every call answers so. Open, book and poll are taken with value 0, and a file is written with its length.
 pub enum Answer {
     Taken(i64),
     Refused(Refusal),
@@ -69,6 +70,7 @@ impl Refusal {
             Refusal::BadVote => 13,
             Refusal::DamagedRecord(_) => 14,
             Refusal::DamagedSlot(_) => 15,
+            Refusal::ShortBuffer => 16,
         }
     }
 
@@ -92,6 +94,7 @@ impl Refusal {
             Refusal::BadVote => 0,
             Refusal::DamagedRecord(row) => row,
             Refusal::DamagedSlot(row) => row,
+            Refusal::ShortBuffer => 0,
         }
     }
 }

@@ -1,11 +1,9 @@
 -- Laws of the listing: how long a row and the whole can be, and one row more.
-use mathlib.Core.Path.{_≡_, ap, _∙_}
 use mathlib.Core.List.{List}
 use Prim.Native.Nat.{ℕ, zero, suc, _+_, _*_, _<_, _≤_}
 use native.Mathlib.Numerals.{add-one}
 use native.Mathlib.Omega.{arith}
 use lib.ListN.{length, length-append}
-use lib.Seq.{length-sets}
 use Rattle.loops.specs.Total.{bit}
 use Rattle.loops.proofs.Total.{bit-le}
 use Rattle.rules.specs.Layout.{bookings, slotOf, stateOf, confidenceOf}
@@ -13,15 +11,11 @@ use Rattle.rules.specs.Readings.{isPreferred, acceptedOf}
 use Rattle.rules.specs.Sound.{Ledger}
 use Rattle.rule_laws.proofs.Slots.{slotOf-lt}
 use Rattle.rule_laws.proofs.Readings.{confidence-le}
-use Rattle.text_put.specs.Put.{Put}
+use Rattle.put.specs.Put.{Put}
 use Rattle.text_print.specs.Columns.{listHeader, rowPrints}
-use Rattle.text_put.proofs.Puts.{put-none, put-then}
+use Rattle.put.proofs.Puts.{put-none, put-then}
 use Rattle.text_put.proofs.Decimals.{decimal-length}
 use Rattle.text_listing.specs.Listed.{listRow, rowsPrint, listPrints, rowMost, lineMost}
-
--- a writer keeps the buffer's length
-pub put-length : {out out′ : List ℕ} {at r : ℕ} {xs : List ℕ} → Put out at xs r out′ → length out′ ≡ length out
-put-length {out} {at = at} {xs = xs} p = ap length (p .after) ∙ length-sets out at xs
 
 -- ---- how long each is
 

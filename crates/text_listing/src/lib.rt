@@ -8,7 +8,7 @@ ghost use Rattle.loops.specs.Total.{bit};
 ghost use Rattle.rules.specs.Layout.{bookings};
 ghost use Rattle.rules.specs.Readings.{acceptedBelow};
 ghost use Rattle.rules.specs.Sound.{Ledger};
-ghost use Rattle.text_put.specs.Put.{Put};
+ghost use Rattle.put.specs.Put.{Put};
 ghost use Rattle.text_print.specs.Columns.{rowPrints};
 ghost use Rattle.text_listing.specs.Listed.{listRow, rowsPrint, listPrints, rowMost, lineMost};
 

@@ -8,9 +8,9 @@ use native.Mathlib.Omega.{arith}
 use lib.ListN.{length, getD, drop, length-append, drop-of-length-le}
 use lib.Seq.{drop-cons}
 use borrow.Author.Tests.{lt-ltb, le-ltb}
-use Rattle.text_put.specs.Put.{Put}
+use Rattle.put.specs.Put.{Put}
 use Rattle.text_print.specs.Columns.{fieldPrints, fieldMost, endOf, endAt, rowPrints}
-use Rattle.text_put.proofs.Puts.{put-then, put-none}
+use Rattle.put.proofs.Puts.{put-then, put-none}
 use Rattle.text_put.proofs.Decimals.{decimal-length}
 
 pub field-length : (v after : ℕ) → v < 2 ^ 64 → length (fieldPrints v after) ≤ fieldMost

@@ -5,7 +5,7 @@ use text_put::put_text;
 ghost use mathlib.Core.Path.{_≡_};
 ghost use Prim.Native.Nat.{_+_, _*_, _<_, _≤_};
 ghost use lib.ListN.{length};
-ghost use Rattle.text_put.specs.Put.{Put, Room};
+ghost use Rattle.put.specs.Put.{Put, Room};
 ghost use Rattle.text_print.specs.Columns.{
   endAt,
   fieldPrints,

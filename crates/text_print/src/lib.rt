@@ -9,7 +9,7 @@ use text_put::put_signed;
 use text_put::put_text;
 ghost use Prim.Native.Nat.{_+_, _≤_};
 ghost use lib.ListN.{length};
-ghost use Rattle.text_put.specs.Put.{Put, Room};
+ghost use Rattle.put.specs.Put.{Put, Room};
 ghost use Rattle.text_print.specs.Print.{
   answerMost,
   badLine,

@@ -8,10 +8,9 @@ use lib.ListN.{length, take, drop, drop-of-length-le}
 use lib.Seq.{sets-eq, take-at, length-take-le}
 use borrow.Author.Tests.{le-leb, lt-leb}
 use Rattle.rules.specs.Layout.{size}
-use Rattle.text_put.specs.Put.{Put}
-use Rattle.text_put.proofs.Puts.{put-none, put-then}
+use Rattle.put.specs.Put.{Put}
+use Rattle.put.proofs.Puts.{put-none, put-then, put-length}
 use Rattle.text_listing.specs.Listed.{lineMost}
-use Rattle.text_listing.proofs.Rows.{put-length}
 use Rattle.line_serve.specs.declared.Served.{Served}
 use Rattle.line_serve.specs.Serve.{served, Keeps, Serves as LineServes}
 use Rattle.text_program.specs.Program.{lines, printed}

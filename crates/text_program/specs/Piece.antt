@@ -7,7 +7,7 @@ use lib.ListN.{length, take, drop}
 use lib.Dec.{eqb, leb}
 use Rattle.rules.specs.Layout.{size}
 use Rattle.text_bytes.specs.Bytes.{lineFeed}
-use Rattle.text_put.specs.Put.{Put}
+use Rattle.put.specs.Put.{Put}
 use Rattle.text_listing.specs.Listed.{lineMost}
 use Rattle.line_serve.specs.Serve.{served, Keeps}
 use Rattle.text_program.specs.Program.{lines, printed}

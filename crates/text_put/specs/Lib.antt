@@ -1,3 +1,2 @@
--- What is written into a lent buffer, and numbers as decimal digits.
-pub mod Put
+-- Numbers as decimal digits.
 pub mod Decimal

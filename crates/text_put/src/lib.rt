@@ -1,5 +1,5 @@
 // Writers into a lent buffer: bytes from an offset on, and the offset after them. Every other byte stays.
-ghost use Rattle.text_put.specs.Put.{Put, Room};
+ghost use Rattle.put.specs.Put.{Put, Room};
 ghost use Rattle.text_put.specs.Decimal.{decimal, signed};
 
 // A text, byte by byte.

@@ -1,8 +1,14 @@
 // Leaf readers and writers of the lent words. All index arithmetic lives here: everything above says header, record or slot entry.
 use rules::layout;
+use terms::vote;
+use terms::vote::State;
 ghost use mathlib.Core.Path.{_≡_};
-ghost use Prim.Native.Nat.{_<_, _*_};
+ghost use Prim.Native.Nat.{_<_, _≤_, _*_, _+_};
 ghost use lib.ListN.{length};
+ghost use lib.Dec.{eqb};
+ghost use Rattle.loops.specs.Fill.{from};
+ghost use Rattle.loops.specs.Total.{bit};
+ghost use Rattle.terms.specs.Setting.{settingNumbers};
 ghost use Rattle.rules.specs.Layout.{
   size,
   mostBookings,
@@ -17,8 +23,10 @@ ghost use Rattle.rules.specs.Layout.{
   withHeader,
   withField,
   withEntry,
+  settingIn,
   nameOf,
   parentOf,
+  stateOf,
 };
 
 // A word as a wider number.
@@ -43,6 +51,16 @@ pub fn header(w: &[u16], f: usize) -> u16
     word
 }
 
+// The four words of the setting.
+pub fn setting(w: &[u16]) -> &[u16]
+    requires { ⌜ length (now w) ≡ size ⌝ }
+    ensures { λ r. ⌜ now r ≡ settingNumbers (settingIn (now (w .entry))) ⌝ }
+{
+    let start = layout::K;
+    let end = layout::POLLS;
+    &w[start..end]
+}
+
 pub fn set_header(w: &mut [u16], f: usize, v: u16)
     requires { ⌜ (length (now w) ≡ size) × (f < headerWords) ⌝ }
     ensures { λ _. ⌜ now (w .exit) ≡ withHeader (now (w .entry)) f v ⌝ }
@@ -56,6 +74,16 @@ pub fn field(w: &[u16], i: usize, f: usize) -> u16
     ensures { λ r. ⌜ r ≡ field (now (w .entry)) i f ⌝ }
 {
     w[layout::HEADER_WORDS + layout::RECORD_WORDS * i + f]
+}
+
+// So many words of record i, from word f on.
+pub fn fields(w: &[u16], i: usize, f: usize, count: usize) -> &[u16]
+    requires { ⌜ (length (now w) ≡ size) × (i < mostBookings) × (f + count ≤ recordWords) ⌝ }
+    ensures { λ r. ⌜ now r ≡ from (field (now (w .entry)) i) f count ⌝ }
+{
+    let start = layout::HEADER_WORDS + layout::RECORD_WORDS * i + f;
+    let end = start + count;
+    &w[start..end]
 }
 
 // Word f of record i, as a wider number.
@@ -108,6 +136,19 @@ pub fn name(w: &[u16], i: usize) -> u64
     let c = wide64(field(w, i, 2));
     let d = wide64(field(w, i, 3));
     ((a * 65536 + b) * 65536 + c) * 65536 + d
+}
+
+// 1 for a record in state 2, else 0.
+pub fn chit(w: &[u16], i: usize) -> usize
+    requires { ⌜ (length (now w) ≡ size) × (i < mostBookings) ⌝ }
+    ensures { λ r. ⌜ r ≡ bit (eqb (stateOf (now (w .entry)) i) 2) ⌝ }
+{
+    match vote::read_state(field(w, i, layout::STATE)) {
+        State::Waiting => 0,
+        State::NoChit => 0,
+        State::Chit => 1,
+        State::Unknown => 0,
+    }
 }
 
 // The parent at place a of booking j, or 65535.

@@ -4,7 +4,7 @@ use mathlib.Core.Bool.{cond}
 use native.Mathlib.Omega.{arith}
 use lib.Seq.{length-take-le}
 use borrow.Author.Needs.{needs}
-use Rattle.text_listing.proofs.Rows.{put-length}
+use Rattle.put.proofs.Puts.{put-length}
 use Rattle.text_program.specs.Program.{zeros, lines}
 use Rattle.text_program.specs.Piece.{wordsAfter}
 use Rattle.console.proofs.serve_input.Statement.{statement}

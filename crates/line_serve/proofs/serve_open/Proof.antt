@@ -3,7 +3,7 @@ use mathlib.Core.Path.{sym, ap, subst, _∙_}
 use borrow.Author.Needs.{needs}
 use Rattle.terms.specs.Answers.{outcome, done}
 use Rattle.rules.specs.Sound.{Ledger}
-use Rattle.text_put.proofs.Puts.{put-none}
+use Rattle.put.proofs.Puts.{put-none}
 use Rattle.line_serve.proofs.Known.{open-good, open-bad, open-keeps}
 use Rattle.line_serve.proofs.Serving.{serves-called}
 use Rattle.line_serve.proofs.serve_open.Statement.{statement}

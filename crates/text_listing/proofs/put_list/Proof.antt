@@ -3,9 +3,8 @@ use mathlib.Core.Path.{ap, _∙_}
 use native.Mathlib.Omega.{arith}
 use borrow.Author.Needs.{needs}
 use Rattle.rules.specs.Readings.{acceptedBelow}
-use Rattle.text_put.proofs.Puts.{put-then}
+use Rattle.put.proofs.Puts.{put-then, put-length}
 use Rattle.text_listing.specs.Listed.{listPrints}
-use Rattle.text_listing.proofs.Rows.{put-length}
 use Rattle.text_listing.proofs.put_list.Statement.{statement}
 use Rattle.text_listing.proofs.put_list.Tie as tie
 

@@ -5,9 +5,10 @@ use lib.ListN.{length}
 use native.Mathlib.Omega.{arith}
 use borrow.Author.Needs.{needs}
 use Rattle.rules.specs.Layout.{bookings}
-use Rattle.text_put.specs.Put.{Put}
+use Rattle.put.specs.Put.{Put}
+use Rattle.put.proofs.Puts.{put-length}
 use Rattle.text_listing.specs.Listed.{rowsPrint}
-use Rattle.text_listing.proofs.Rows.{put-length, rows-length, rows-none, rows-more}
+use Rattle.text_listing.proofs.Rows.{rows-length, rows-none, rows-more}
 use Rattle.text_listing.proofs.put_rows.Statement.{statement}
 use Rattle.text_listing.proofs.put_rows.Tie as tie
 

@@ -5,7 +5,7 @@ use mir.Syntax.{w64}
 use mir.Val.{SFits, toZ, ofZ}
 use mir.ValLaws.{toZ-ofZ}
 use borrow.Author.Needs.{needs}
-use Rattle.text_put.proofs.Puts.{put-one, put-then}
+use Rattle.put.proofs.Puts.{put-one, put-then}
 use Rattle.text_put.proofs.Signs.{signed-length}
 use Rattle.text_print.proofs.put_reading.Statement.{statement}
 use Rattle.text_print.proofs.put_reading.Tie as tie

@@ -3,7 +3,7 @@ use mathlib.Core.Path.{_∙_}
 use native.Mathlib.Omega.{arith}
 use lib.ListN.{length-set}
 use borrow.Author.Needs.{needs}
-use Rattle.text_put.proofs.Puts.{put-one, put-then}
+use Rattle.put.proofs.Puts.{put-one, put-then}
 use Rattle.text_put.proofs.Decimals.{decimal-length}
 use Rattle.text_print.proofs.put_refusal.Statement.{statement}
 use Rattle.text_print.proofs.put_refusal.Tie as tie

@@ -8,7 +8,7 @@ use lib.Seq.{take-all}
 use borrow.Author.Needs.{needs}
 use borrow.Author.Tests.{leb-true, leb-false}
 use Rattle.text_listing.specs.Listed.{lineMost}
-use Rattle.text_listing.proofs.Rows.{put-length}
+use Rattle.put.proofs.Puts.{put-length}
 use Rattle.text_program.specs.Piece.{lineEnd}
 use Rattle.text_program.proofs.Lines.{end-le}
 use Rattle.text_program.proofs.Pieces.{Gathering, gathering-none, gathering-more, gathering-over, gathered-full, gathered-over}

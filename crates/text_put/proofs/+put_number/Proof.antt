@@ -6,7 +6,7 @@ use lib.ListN.{length}
 use borrow.Author.Needs.{needs}
 use borrow.Fn.Kinds.{In}
 use borrow.Fn.PlainCycle.{Measures, is, falls, and}
-use Rattle.text_put.proofs.Puts.{put-one, put-then}
+use Rattle.put.proofs.Puts.{put-one, put-then}
 use Rattle.text_put.proofs.Decimals.{decimal-low, decimal-high, decimal-high-length}
 use Rattle.text_put.proofs.put_number.Reads as put-number
 use Rattle.text_put.proofs.put_number.Kinds as put-number-kinds

@@ -10,7 +10,7 @@ use mir.Syntax.{w64}
 use mir.Val.{toZ, ofZ}
 use mir.ValLaws.{toZ-ofZ, toZ-pos}
 use borrow.Author.Needs.{needs}
-use Rattle.text_put.proofs.Puts.{put-one, put-then}
+use Rattle.put.proofs.Puts.{put-one, put-then}
 use Rattle.text_put.proofs.Decimals.{decimal-fits}
 use Rattle.text_put.proofs.Signs.{rest-below, signed-below, natAbs-le, nonNeg-above, signed-above}
 use Rattle.text_put.proofs.put_signed.Statement.{statement}

@@ -6,7 +6,7 @@ use lib.ListN.{length, drop}
 use lib.Seq.{sets}
 use native.Mathlib.Omega.{arith}
 use borrow.Author.Needs.{needs}
-use Rattle.text_put.proofs.Puts.{sets-more, sets-over}
+use Rattle.put.proofs.Puts.{sets-more, sets-over}
 use Rattle.text_put.proofs.put_text.Statement.{statement}
 use Rattle.text_put.proofs.put_text.Tie as tie
 

@@ -1,7 +1,7 @@
 -- The number has at most twenty digits, so there is room for it and for the byte after it.
 use native.Mathlib.Omega.{arith}
 use borrow.Author.Needs.{needs}
-use Rattle.text_put.proofs.Puts.{put-one, put-then}
+use Rattle.put.proofs.Puts.{put-one, put-then}
 use Rattle.text_put.proofs.Decimals.{decimal-length}
 use Rattle.text_print.proofs.columns.put_field.Statement.{statement}
 use Rattle.text_print.proofs.columns.put_field.Tie as tie

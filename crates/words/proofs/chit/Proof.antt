@@ -3,8 +3,8 @@ use native.Mathlib.Omega.{arith}
 use borrow.Author.Needs.{needs}
 use Rattle.terms.specs.declared.vote.State.the-variants.{Waiting, NoChit, Chit, Unknown}
 use Rattle.terms.proofs.States.{state-reads, unknown-other}
-use Rattle.sound_rows.proofs.record.chit.Statement.{statement}
-use Rattle.sound_rows.proofs.record.chit.Tie as tie
+use Rattle.words.proofs.chit.Statement.{statement}
+use Rattle.words.proofs.chit.Tie as tie
 
 field-requires : tie.Need-field-requires
 field-requires c κs = search needs

@@ -1,0 +1,220 @@
+-- CR 2: the cases of the day file, one table under one statement, computed from the definitions on whole workspaces.
+-- Every step is a call with its refusals, as a user would make it. The bytes are plain numbers, worked out by hand from the request's words.
+use mathlib.Core.Path.{_≡_, sym, ap, ap₂, _∙_}
+use mathlib.Core.List.{List, [], _∷_, _++_}
+use Prim.Native.Nat.{ℕ}
+use lib.IntN.{pos}
+use lib.ListN.{replicate}
+use Rattle.loops.specs.Turns.{upTo}
+use Rattle.loops.specs.Search.{firstFrom}
+use Rattle.loops.specs.Total.{bit, total, greatest}
+use Rattle.loops.specs.Fill.{from}
+use Rattle.loops.specs.Rows.{walkFrom}
+use Rattle.terms.specs.declared.answer.Tested.{Tested}
+use Rattle.terms.specs.Setting.{settingOf}
+use Rattle.terms.specs.Answers.{Outcome, Handover}
+use Rattle.terms.specs.Votes.{voteOf}
+use Rattle.rules.specs.Layout.{size, pollsField, confidenceField, counterField, withHeader, withField, withEntry}
+use Rattle.rules.specs.Ancestry.{ancestry, sweep, spread}
+use Rattle.rules.specs.IsSound.{headerGood, genesisGood, bookingGood, parentsGood, stateGood, chits, bookingsOf}
+use Rattle.rules.specs.Open.{opened, openWord}
+use Rattle.rules.specs.Book.{lookUp, hasUnknown, hasTwice, entered, booked}
+use Rattle.rules.specs.Poll.{polled, raiseOne, prefer, follow, settleOne}
+use Rattle.rules.specs.Calls.{openCall, bookBy, pollBy, bookCall, pollCall}
+use Rattle.rules.proofs.Same.{sameNumbers, Got, got, Passes, passes, sameTable, same-table}
+use Rattle.rules.proofs.Walk.{badRecordWalked, badSlotWalked, testWalked, test-walked-is}
+use Rattle.day_file.specs.Day.{parentCount, holder, dayOf}
+use Rattle.day_file.specs.Bytes.{highFirst, joined, encode}
+use Rattle.day_file.specs.Calls.{writeFirstBy, writeFirstCall}
+
+-- the calls that the cases make
+pub record CallsMade : Type 0 where
+  pub book : List ℕ → ℕ → ℕ → List ℕ → Outcome
+  pub poll : List ℕ → ℕ → List ℕ → Outcome
+  pub write : List ℕ → List ℕ → Handover
+
+-- the calls of the law
+unfoldable pub theCalls : CallsMade
+theCalls =
+    record {
+      book = bookCall;
+      poll = pollCall;
+      write = writeFirstCall;
+    }
+
+-- a number: the value of a taken call, a byte, or 1 for yes
+abbrev is : ℕ → Got
+is n = (0, pos n)
+
+abbrev each : List ℕ → List Got
+each [] = []
+each (n ∷ ns) = is n ∷ each ns
+
+-- what writing gives: number and value, whether every word is as it was, and the bytes of the buffer
+abbrev written : CallsMade → (w buffer : List ℕ) → List Got
+written c w buffer = let o = c .write w buffer in got (o .answer) ∷ is (bit (sameNumbers (o .words) w)) ∷ each (o .lent)
+
+-- and what it has to give: every word is as it was
+abbrev given : Got → (bytes : List ℕ) → List Got
+given answer bytes = answer ∷ is 1 ∷ each bytes
+
+abbrev unopened : List ℕ
+unopened = replicate size 0
+
+-- ---- the ledger that document 01's listing is of
+
+abbrev pub fileSays : List ℕ
+fileSays =
+    0 ∷ 4  -- four numbers: k, a, β1, β2
+    ∷ 0 ∷ 3 ∷ 0 ∷ 2 ∷ 0 ∷ 1 ∷ 0 ∷ 2
+    ∷ 0 ∷ 4  -- four bookings, each with its name, slot, count of parents and parents' numbers
+    ∷ 0 ∷ 0 ∷ 0 ∷ 0 ∷ 0 ∷ 0 ∷ 0 ∷ 1 ∷ 0 ∷ 7 ∷ 0 ∷ 1 ∷ 0 ∷ 0
+    ∷ 0 ∷ 0 ∷ 0 ∷ 0 ∷ 0 ∷ 0 ∷ 0 ∷ 2 ∷ 0 ∷ 7 ∷ 0 ∷ 1 ∷ 0 ∷ 0
+    ∷ 0 ∷ 0 ∷ 0 ∷ 0 ∷ 0 ∷ 0 ∷ 0 ∷ 3 ∷ 0 ∷ 9 ∷ 0 ∷ 1 ∷ 0 ∷ 1
+    ∷ 0 ∷ 0 ∷ 0 ∷ 0 ∷ 0 ∷ 0 ∷ 0 ∷ 4 ∷ 0 ∷ 10 ∷ 0 ∷ 2 ∷ 0 ∷ 1 ∷ 0 ∷ 2
+    ∷ 0 ∷ 4  -- four polls in their order, each with its booking's number and 1 for success or 0
+    ∷ 0 ∷ 2 ∷ 0 ∷ 1
+    ∷ 0 ∷ 3 ∷ 0 ∷ 0
+    ∷ 0 ∷ 4 ∷ 0 ∷ 1
+    ∷ 0 ∷ 1 ∷ 0 ∷ 1
+    ∷ []
+
+unfoldable pub example : CallsMade → List (List Got)
+example c =
+    let empty = openCall unopened (settingOf 3 2 1 2) .words in
+    let booked1 = c .book empty 1 7 (0 ∷ []) .words in
+    let booked2 = c .book booked1 2 7 (0 ∷ []) .words in
+    let booked3 = c .book booked2 3 9 (1 ∷ []) .words in
+    let booked4 = c .book booked3 4 10 (1 ∷ 2 ∷ []) .words in
+    let poll2 = c .poll booked4 2 (1 ∷ 1 ∷ 255 ∷ []) .words in
+    let poll3 = c .poll poll2 3 (1 ∷ 0 ∷ 0 ∷ []) .words in
+    let poll4 = c .poll poll3 4 (1 ∷ 1 ∷ 1 ∷ []) .words in
+    let poll1 = c .poll poll4 1 (1 ∷ 1 ∷ 0 ∷ []) .words in
+    written c poll1 (replicate 88 7 ++ 8 ∷ 9 ∷ []) ∷ []
+
+-- the bytes past the file stay
+unfoldable pub exampleRows : List (List Got)
+exampleRows = given (is 88) (fileSays ++ 8 ∷ 9 ∷ []) ∷ []
+
+-- ---- a ledger where no name is its booking's number, parents are not given in rising number, and high bytes are not all 0. The first poll is of name 2,
+-- which is number 3, and succeeds; the second is of number 1, and fails by 32 yes of 33 needed, whatever confidence the first gave it. Number 2 waits
+
+abbrev pub secondSays : List ℕ
+secondSays =
+    0 ∷ 4  -- 64, 33, 300, 510
+    ∷ 0 ∷ 64 ∷ 0 ∷ 33 ∷ 1 ∷ 44 ∷ 1 ∷ 254
+    ∷ 0 ∷ 3  -- bookings
+    ∷ 255 ∷ 255 ∷ 255 ∷ 255 ∷ 255 ∷ 255 ∷ 255 ∷ 255 ∷ 0 ∷ 255 ∷ 0 ∷ 1 ∷ 0 ∷ 0
+    ∷ 1 ∷ 2 ∷ 3 ∷ 4 ∷ 5 ∷ 6 ∷ 7 ∷ 8 ∷ 0 ∷ 1 ∷ 0 ∷ 1 ∷ 0 ∷ 1
+    ∷ 0 ∷ 0 ∷ 0 ∷ 0 ∷ 0 ∷ 0 ∷ 0 ∷ 2 ∷ 0 ∷ 128 ∷ 0 ∷ 3 ∷ 0 ∷ 2 ∷ 0 ∷ 0 ∷ 0 ∷ 1
+    ∷ 0 ∷ 2  -- polls
+    ∷ 0 ∷ 3 ∷ 0 ∷ 1
+    ∷ 0 ∷ 1 ∷ 0 ∷ 0
+    ∷ []
+
+unfoldable pub second : CallsMade → List (List Got)
+second c =
+    let highest : ℕ = 18446744073709551615 in
+    let mixed : ℕ = 72623859790382856 in
+    let empty = openCall unopened (settingOf 64 33 300 510) .words in
+    let booked1 = c .book empty highest 255 (0 ∷ []) .words in
+    let booked2 = c .book booked1 mixed 1 (highest ∷ []) .words in
+    let booked3 = c .book booked2 2 128 (mixed ∷ 0 ∷ highest ∷ []) .words in
+    let poll3 = c .poll booked3 2 (replicate 33 1 ++ replicate 31 255) .words in
+    let poll1 = c .poll poll3 highest (replicate 32 1 ++ replicate 32 0) .words in
+    written c poll1 (replicate 68 7 ++ 8 ∷ []) ∷ []
+
+unfoldable pub secondRows : List (List Got)
+secondRows = given (is 68) (secondSays ++ 8 ∷ []) ∷ []
+
+-- ---- the genesis alone, with the paper's setting
+
+abbrev pub aloneSays : List ℕ
+aloneSays = 0 ∷ 4 ∷ 0 ∷ 10 ∷ 0 ∷ 8 ∷ 0 ∷ 11 ∷ 0 ∷ 150 ∷ 0 ∷ 0 ∷ 0 ∷ 0 ∷ []
+
+unfoldable pub alone : CallsMade → List (List Got)
+alone c =
+    let empty = openCall unopened (settingOf 10 8 11 150) .words in
+    -- a buffer of just the file's length
+    written c empty (replicate 14 7)
+    -- and one byte less
+    ∷ written c empty (replicate 13 7)
+    ∷ []
+
+unfoldable pub aloneRows : List (List Got)
+aloneRows =
+    given (is 14) aloneSays
+    ∷ given (16, pos 0) (replicate 13 7)
+    ∷ []
+
+-- ---- damage comes before a short buffer. One booking, number 1 in slot 7, waits: no confidence and no counter may be above 0, and p may be 0 or 1
+
+unfoldable pub damaged : CallsMade → List (List Got)
+damaged c =
+    let sound = c .book (openCall unopened (settingOf 1 1 1 2) .words) 1 7 (0 ∷ []) .words in
+    let counter = withEntry sound 7 counterField 1 in
+    let confidence = withField counter 1 confidenceField 1 in
+    let header = withHeader confidence pollsField 2 in
+    -- nothing is damaged, and no buffer has less room
+    written c sound []
+    -- a slot, and a record beside it
+    ∷ written c counter []
+    ∷ written c confidence []
+    -- the header beside both, and one word more beside all that; what was never opened
+    ∷ written c header []
+    ∷ written c (0 ∷ header) []
+    ∷ written c unopened []
+    ∷ []
+
+unfoldable pub damagedRows : List (List Got)
+damagedRows =
+    given (16, pos 0) []
+    ∷ given (15, pos 7) []
+    ∷ given (14, pos 1) []
+    ∷ given (2, pos 0) []
+    ∷ given (1, pos 0) []
+    ∷ given (2, pos 0) []
+    ∷ []
+
+-- ---- the whole table, by the ledgers that the cases are made on
+
+-- what the cases give
+abbrev pub table : CallsMade → List (List Got)
+table c = example c ++ second c ++ alone c ++ damaged c
+
+-- what CR 2 says
+abbrev pub says : List (List Got)
+says = exampleRows ++ secondRows ++ aloneRows ++ damagedRows
+
+-- ---- computed with the test that walks
+
+abbrev made : (List ℕ → Tested) → CallsMade
+made test = record { book = bookBy test; poll = pollBy test; write = writeFirstBy test }
+
+example-walked : Passes (sameTable (example (made testWalked)) exampleRows)
+unfolding example exampleRows dayOf parentCount holder highFirst joined encode sameNumbers testWalked badRecordWalked badSlotWalked headerGood genesisGood bookingGood parentsGood stateGood chits bookingsOf opened openWord lookUp hasUnknown hasTwice entered booked polled raiseOne prefer follow settleOne ancestry sweep spread voteOf openCall upTo firstFrom total greatest from walkFrom
+example-walked = tt
+
+second-walked : Passes (sameTable (second (made testWalked)) secondRows)
+unfolding second secondRows dayOf parentCount holder highFirst joined encode sameNumbers testWalked badRecordWalked badSlotWalked headerGood genesisGood bookingGood parentsGood stateGood chits bookingsOf opened openWord lookUp hasUnknown hasTwice entered booked polled raiseOne prefer follow settleOne ancestry sweep spread voteOf openCall upTo firstFrom total greatest from walkFrom
+second-walked = tt
+
+alone-walked : Passes (sameTable (alone (made testWalked)) aloneRows)
+unfolding alone aloneRows dayOf parentCount holder highFirst joined encode sameNumbers testWalked badRecordWalked badSlotWalked headerGood genesisGood bookingGood parentsGood stateGood chits bookingsOf opened openWord lookUp hasUnknown hasTwice entered booked polled raiseOne prefer follow settleOne ancestry sweep spread voteOf openCall upTo firstFrom total greatest from walkFrom
+alone-walked = tt
+
+damaged-walked : Passes (sameTable (damaged (made testWalked)) damagedRows)
+unfolding damaged damagedRows dayOf parentCount holder highFirst joined encode sameNumbers testWalked badRecordWalked badSlotWalked headerGood genesisGood bookingGood parentsGood stateGood chits bookingsOf opened openWord lookUp hasUnknown hasTwice entered booked polled raiseOne prefer follow settleOne ancestry sweep spread voteOf openCall upTo firstFrom total greatest from walkFrom
+damaged-walked = tt
+
+-- one ledger's rows, by the calls of the law
+rows-by : (rows : CallsMade → List (List Got)) (said : List (List Got)) → Passes (sameTable (rows (made testWalked)) said) → rows theCalls ≡ said
+unfolding theCalls bookCall pollCall writeFirstCall
+rows-by rows said walked = ap (λ test. rows (made test)) (sym test-walked-is) ∙ same-table (rows (made testWalked)) said (passes _ walked)
+
+-- the statement: the cases are as the request says
+pub cases : table theCalls ≡ says
+cases =
+    ap₂ _++_
+    (ap₂ _++_ (ap₂ _++_ (rows-by example exampleRows example-walked) (rows-by second secondRows second-walked)) (rows-by alone aloneRows alone-walked))
+    (rows-by damaged damagedRows damaged-walked)

@@ -1,0 +1,51 @@
+-- CR 2: what a day file carries of a ledger, as a day: the setting, the bookings in the order of their numbers, the polls in the order of their ordinals.
+use Prim.Native.Nat.{ℕ, _-_}
+use mathlib.Core.Bool.{Bool}
+use mathlib.Core.List.{List}
+use lib.Dec.{eqb}
+use Rattle.loops.specs.Search.{first}
+use Rattle.loops.specs.Fill.{from}
+use Rattle.terms.specs.declared.setting.Setting.{Setting}
+use Rattle.rules.specs.Layout.{mostParents, none, bookings, settingIn, polls, nameOf, slotOf, parentOf, stateOf, ordinalOf}
+
+-- a booking: its name, its slot, and its parents' numbers in the order given
+pub record DayBooking : Type 0 where
+  pub name : ℕ
+  pub slot : ℕ
+  pub parents : List ℕ
+
+-- a poll: the number of its booking, and whether it succeeded
+pub record DayPoll : Type 0 where
+  pub booking : ℕ
+  pub success : Bool
+
+pub record Day : Type 0 where
+  pub setting : Setting
+  pub bookings : List DayBooking
+  pub polls : List DayPoll
+
+-- ---- the day that words hold
+
+-- how many parents booking i has: unused places stand after used ones
+unfoldable pub parentCount : List ℕ → ℕ → ℕ
+parentCount w i = first (λ a. eqb (parentOf w i a) none) mostParents
+
+abbrev pub bookingAt : List ℕ → ℕ → DayBooking
+bookingAt w i = record { name = nameOf w i; slot = slotOf w i; parents = from (parentOf w i) 0 (parentCount w i) }
+
+-- the number of the booking whose poll had the ordinal
+unfoldable pub holder : List ℕ → ℕ → ℕ
+holder w ordinal = first (λ i. eqb (ordinalOf w i) ordinal) (bookings w)
+
+-- the poll of booking i: a chit, state 2, is a success
+abbrev pub pollOf : List ℕ → ℕ → DayPoll
+pollOf w i = record { booking = i; success = eqb (stateOf w i) 2 }
+
+-- bookings from number 1 on, without the genesis; polls from ordinal 1 to p
+unfoldable pub dayOf : List ℕ → Day
+dayOf w =
+    record {
+      setting = settingIn w;
+      bookings = from (bookingAt w) 1 (bookings w - 1);
+      polls = from (λ ordinal. pollOf w (holder w ordinal)) 1 (polls w);
+    }

@@ -1,0 +1,2 @@
+-- Laws of numbers in a lent buffer, cited by the proofs of the functions. They assume nothing.
+pub mod Words

@@ -1,0 +1,2 @@
+-- Laws of rows in a lent buffer, cited by the proofs of the functions. They assume nothing.
+pub mod Rows

@@ -1,0 +1,2 @@
+-- Laws of a written file, cited by the proof of the function. They assume nothing.
+pub mod Written

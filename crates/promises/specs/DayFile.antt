@@ -1,0 +1,69 @@
+-- CR 2: what the call that writes the day file leaves, how long a file is, and what it carries. Which bytes it has stands in day_file/specs/Bytes.antt.
+use mathlib.Core.Path.{_≡_}
+use mathlib.Core.List.{List}
+use Prim.Native.Nat.{ℕ, _+_, _*_, _-_, _<_, _≤_}
+use lib.IntN.{ℤ, pos}
+use lib.ListN.{length, getD}
+use Rattle.loops.specs.Total.{total}
+use Rattle.terms.specs.Answers.{number, value}
+use Rattle.rules.specs.Layout.{mostParents, bookings, settingIn, polls, nameOf, slotOf, parentOf, stateOf, ordinalOf}
+use Rattle.rules.specs.Sound.{Ledger}
+use Rattle.day_file.specs.Day.{parentCount}
+use Rattle.day_file.specs.Bytes.{dayFile}
+use Rattle.day_file.specs.Calls.{writeFirstCall}
+
+-- ---- the call, on any words and any lent buffer
+
+-- the bytes that a call left in the buffer, and its value: the file stands at the front, the bytes past it stay, and the value is the file's length
+pub record Written (file buffer : List ℕ) (value : ℤ) (bytes : List ℕ) : Type 0 where
+  pub room : length file ≤ length buffer
+  pub valued : value ≡ pos (length file)
+  pub long : length bytes ≡ length buffer
+  pub front : (j : ℕ) → j < length file → getD bytes j 0 ≡ getD file j 0
+  pub past : (j : ℕ) → length file ≤ j → getD bytes j 0 ≡ getD buffer j 0
+
+-- a taken call writes the file, and changes no word; a refused one leaves words and buffer as they were (RefusedKeeps, in Refusals.antt)
+unfoldable pub FileWritten : Type 0
+FileWritten =
+    (w buffer : List ℕ) → let o = writeFirstCall w buffer in number (o .answer) ≡ 0
+    → Written (dayFile w) buffer (value (o .answer)) (o .lent) × (o .words ≡ w)
+
+-- every ledger is written where the buffer has room for its file; one of 12,266 bytes always has (FileLength)
+unfoldable pub FileTaken : Type 0
+FileTaken = (w buffer : List ℕ) → Ledger w → length (dayFile w) ≤ length buffer → number (writeFirstCall w buffer .answer) ≡ 0
+
+-- ---- the file of a ledger
+
+-- how long it is: three counts and the setting, 12 bytes and two for each parent of each booking from number 1, and four for each poll
+unfoldable pub FileCounted : Type 0
+FileCounted = (w : List ℕ) → length (dayFile w) ≡ 14 + total (λ j. 12 + 2 * parentCount w (j + 1)) (bookings w - 1) + 4 * polls w
+
+-- 14 bytes where the genesis stands alone. No more than 12,266: with 512 bookings and 511 polls, where bookings 1, 2 and 3 have as many parents as there
+-- are lower numbers and every later one has four
+unfoldable pub FileLength : Type 0
+FileLength = (w : List ℕ) → Ledger w → (14 ≤ length (dayFile w)) × (length (dayFile w) ≤ 12266)
+
+-- lent words have 16 bits. Soundness bounds what else a file carries, but not the four words of a name
+abbrev pub Words16 : List ℕ → Type 0
+Words16 w = (k : ℕ) → getD w k 0 < 65536
+
+-- two ledgers with the same setting, the same bookings, and the same polls in the same order with the same outcomes
+pub record SameDay (w u : List ℕ) : Type 0 where
+  pub setting : settingIn w ≡ settingIn u
+  pub bookingsSame : bookings w ≡ bookings u
+  pub name : (i : ℕ) → i < bookings w → nameOf w i ≡ nameOf u i
+  pub slot : (i : ℕ) → i < bookings w → slotOf w i ≡ slotOf u i
+  pub parent : (i a : ℕ) → i < bookings w → a < mostParents → parentOf w i a ≡ parentOf u i a
+  pub pollsSame : polls w ≡ polls u
+  -- when each was polled, 0 where it wasn't
+  pub ordinal : (i : ℕ) → i < bookings w → ordinalOf w i ≡ ordinalOf u i
+  -- and with which outcome
+  pub state : (i : ℕ) → i < bookings w → stateOf w i ≡ stateOf u i
+
+-- a file tells the ledger's day: two ledgers that give the same bytes have it in common
+unfoldable pub SameFile : Type 0
+SameFile = (w u : List ℕ) → Ledger w → Ledger u → Words16 w → Words16 u → dayFile w ≡ dayFile u → SameDay w u
+
+-- and it tells nothing else: whatever confidences, preferred and last bookings and counters are, the same day gives the same bytes
+unfoldable pub SameDayFile : Type 0
+SameDayFile = (w u : List ℕ) → Ledger w → SameDay w u → dayFile w ≡ dayFile u

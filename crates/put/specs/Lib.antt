@@ -1,0 +1,2 @@
+-- What a writer leaves in a lent buffer.
+pub mod Put
