@@ -2,18 +2,21 @@
  * Filzhammer: a ledger of bookings that compete for slots by vote.
  *
  * A caller lends the words; the library keeps nothing of its own, allocates nothing and reads no clock, so any number of
- * ledgers may live side by side. Every call takes any contents and any numbers: it answers, or refuses and changes no word.
+ * ledgers may live side by side. Every call takes any contents and any numbers: it answers, or refuses and changes no word
+ * and no byte that it was lent.
  *
- * Each call returns 0 when it is taken and writes its value through the last pointer; open, book and poll have value 0.
- * A refused call returns the number of its refusal and leaves every word of the workspace as it was. It writes value 0, or,
- * with FILZ_DAMAGED_RECORD and FILZ_DAMAGED_SLOT, the lowest row that breaks a rule.
+ * Each call returns 0 when it is taken and writes its value through the last pointer; open, book and poll have value 0, a
+ * reading has what it tells, and writing a day file has the file's length. Open, book and poll alone change the workspace.
+ * A refused call returns the number of its refusal and leaves every word of the workspace, and every byte of the buffer for
+ * a file, as it was. It writes value 0, or, with FILZ_DAMAGED_RECORD and FILZ_DAMAGED_SLOT, the lowest row that breaks a rule.
  *
  * What the caller owes, since no C function can test it:
- *  - every pointer to words, parents or votes leads to as many elements as the count beside it says, and is aligned as its
- *    type asks. Where the count is 0 nothing is read or written through it, and it may be NULL;
- *  - `value` leads to one int64_t and is not NULL, and what it leads to does not overlap the workspace, the parents or the
- *    votes; neither do the parents or the votes overlap the workspace;
- *  - while open, book or poll runs, no other thread uses the same workspace. Readings may run at the same time.
+ *  - every pointer to words, parents, votes or bytes leads to as many elements as the count beside it says, and is aligned as
+ *    its type asks. Where the count is 0 nothing is read or written through it, and it may be NULL;
+ *  - `value` leads to one int64_t and is not NULL, and what it leads to does not overlap the workspace, the parents, the
+ *    votes or the buffer for a file; neither do the parents, the votes or that buffer overlap the workspace;
+ *  - while open, book or poll runs, no other thread uses the same workspace. Readings may run at the same time, and so may
+ *    the writing of day files, each into a buffer that no other thread uses.
  */
 #ifndef FILZHAMMER_H
 #define FILZHAMMER_H
@@ -85,6 +88,20 @@ extern "C" {
 #define FILZ_PAPER_BETA2 150
 
 /*
+ * The day file: today's ledger as bytes, to hand over. Three sections, each after its count. A number takes two bytes and a
+ * name eight, the highest byte first; a parent, and the booking of a poll, are given by their numbers.
+ *
+ *      0   4, then k, a, beta1, beta2
+ *     10   n - 1, then for each booking from number 1 on: its name, its slot, how many parents it has, and those parents
+ *   next   p, then for each poll in the order in which they were taken: its booking, and 1 if it succeeded or 0
+ *
+ * That is 14 bytes, 12 more for each booking but the genesis, 2 for each parent and 4 for each poll. Bookings 1, 2 and 3 have
+ * at most as many parents as there are lower numbers. docs/DAYFILE.md explains a file byte by byte.
+ */
+#define FILZ_FILE_LEAST 14   /* the file of the genesis alone */
+#define FILZ_FILE_MOST 12266 /* of 512 bookings with as many parents as they can have, all polled: room for every file */
+
+/*
  * What a call returns. Where several refusals apply, each call names the first of its own list below; so a damaged header
  * hides damaged records, and a damaged record hides damaged slot entries.
  *
@@ -112,7 +129,8 @@ enum filz_number {
     FILZ_WRONG_VOTES = 12,    /* the number of votes isn't the ledger's k */
     FILZ_BAD_VOTE = 13,       /* a vote is neither FILZ_YES, FILZ_NO nor FILZ_SILENT */
     FILZ_DAMAGED_RECORD = 14, /* the header is right and a record breaks a rule; its number is the value */
-    FILZ_DAMAGED_SLOT = 15    /* header and records are right and a slot entry breaks a rule; its slot is the value */
+    FILZ_DAMAGED_SLOT = 15,   /* header and records are right and a slot entry breaks a rule; its slot is the value */
+    FILZ_SHORT_BUFFER = 16    /* the buffer is shorter than the file; FILZ_FILE_MOST bytes are enough for any */
 };
 
 /*
@@ -170,6 +188,17 @@ uint32_t filz_confidence(const uint16_t *ws, size_t words, uint64_t name, int64_
 
 /* How many members its ancestry has, 1 to 512. */
 uint32_t filz_size(const uint16_t *ws, size_t words, uint64_t name, int64_t *value);
+
+/*
+ * Writes the ledger's day file, in its first form, to the front of a buffer. The value is the file's length, FILZ_FILE_LEAST
+ * to FILZ_FILE_MOST. Bytes past the file stay as they were, and so does every word; a refused call leaves every byte.
+ *
+ * `out` leads to `bytes` bytes, and may be NULL if there are none. It overlaps neither the workspace nor the value.
+ *
+ * Refuses, in this order: FILZ_WRONG_LENGTH, FILZ_DAMAGED_HEADER, FILZ_DAMAGED_RECORD, FILZ_DAMAGED_SLOT,
+ * FILZ_SHORT_BUFFER.
+ */
+uint32_t filz_write_first(const uint16_t *ws, size_t words, uint8_t *out, size_t bytes, int64_t *value);
 
 #ifdef __cplusplus
 }

@@ -63,7 +63,28 @@ static void read_one(reading *ask, const char *after)
     answered(number, value, after);
 }
 
-/* Every call but open, each on its own copy: booking 5 on 1, polling 1, and the five readings of 1. */
+/*
+ * The day file, in a buffer with room for every file. A refused call must have left its bytes alone too, and must be refused
+ * alike in a buffer that is too short for any file.
+ */
+static void write_one(const char *after)
+{
+    static uint8_t file[FILZ_FILE_MOST], before[FILZ_FILE_MOST];
+    int64_t value = 77, short_value = 77;
+    memset(before, 77, sizeof before);
+    memcpy(file, before, sizeof file);
+    uint32_t number = filz_write_first(lent, FILZ_WORDS, file, sizeof file, &value);
+    if (number != FILZ_TAKEN) {
+        uint32_t short_number = filz_write_first(lent, FILZ_WORDS, file, FILZ_FILE_LEAST - 1, &short_value);
+        if (memcmp(file, before, sizeof file) != 0 || short_number != number || short_value != value) {
+            printf("a refused call changed a byte, or a short buffer was told before damage\n");
+            exit(1);
+        }
+    }
+    answered(number, value, after);
+}
+
+/* Every call but open, each on its own copy: booking 5 on 1, polling 1, the five readings of 1, and writing the day file. */
 static void answers(void)
 {
     const uint64_t one[1] = {1};
@@ -79,7 +100,8 @@ static void answers(void)
     read_one(filz_accepted, ",");
     read_one(filz_lead, ",");
     read_one(filz_confidence, ",");
-    read_one(filz_size, "\n");
+    read_one(filz_size, ",");
+    write_one("\n");
 }
 
 static void hit_word(size_t place, uint16_t word)
@@ -108,7 +130,7 @@ int main(void)
         printf("the ledger could not be made\n");
         return 1;
     }
-    printf("number and value of book, poll, query, accepted, lead, confidence, size\n");
+    printf("number and value of book, poll, query, accepted, lead, confidence, size, write_first\n");
     memcpy(hit, good, sizeof hit);
     printf("no word hit:");
     answers();

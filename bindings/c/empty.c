@@ -1,6 +1,6 @@
 /*
  * Nothing lent: where a count is 0 its pointer may be NULL. Each call is then refused as with any other pointer, has value
- * 0 and changes no word. Prints nothing and ends with 0 if that is so.
+ * 0 and changes no word and no byte. Prints nothing and ends with 0 if that is so.
  */
 #include "filzhammer.h"
 
@@ -29,6 +29,7 @@ int main(void)
     const uint64_t genesis[1] = {0};
     const uint8_t yes[1] = {FILZ_YES};
     uint16_t none[1] = {0};
+    uint8_t out[1] = {77};
     if (filz_open(ws, FILZ_WORDS, 1, 1, 1, 2, &value) != FILZ_TAKEN
         || filz_book(ws, FILZ_WORDS, 1, 7, genesis, 1, &value) != FILZ_TAKEN) {
         fprintf(stderr, "the ledger could not be made\n");
@@ -46,22 +47,31 @@ int main(void)
     expect(__LINE__, filz_lead(NULL, 0, 1, &value), FILZ_WRONG_LENGTH);
     expect(__LINE__, filz_confidence(NULL, 0, 1, &value), FILZ_WRONG_LENGTH);
     expect(__LINE__, filz_size(NULL, 0, 1, &value), FILZ_WRONG_LENGTH);
+    expect(__LINE__, filz_write_first(NULL, 0, out, 1, &value), FILZ_WRONG_LENGTH);
 
-    /* neither words nor parents nor votes */
+    /* neither words nor parents nor votes nor bytes */
     expect(__LINE__, filz_book(NULL, 0, 2, 7, NULL, 0, &value), FILZ_WRONG_LENGTH);
     expect(__LINE__, filz_poll(NULL, 0, 1, NULL, 0, &value), FILZ_WRONG_LENGTH);
+    expect(__LINE__, filz_write_first(NULL, 0, NULL, 0, &value), FILZ_WRONG_LENGTH);
 
-    /* no parents, no votes; and the same with a pointer */
+    /* no parents, no votes, no bytes; and the same with a pointer */
     expect(__LINE__, filz_book(ws, FILZ_WORDS, 2, 7, NULL, 0, &value), FILZ_BAD_PARENTS);
     expect(__LINE__, filz_book(ws, FILZ_WORDS, 2, 7, genesis, 0, &value), FILZ_BAD_PARENTS);
     expect(__LINE__, filz_poll(ws, FILZ_WORDS, 1, NULL, 0, &value), FILZ_WRONG_VOTES);
     expect(__LINE__, filz_poll(ws, FILZ_WORDS, 1, yes, 0, &value), FILZ_WRONG_VOTES);
+    expect(__LINE__, filz_write_first(ws, FILZ_WORDS, NULL, 0, &value), FILZ_SHORT_BUFFER);
+    expect(__LINE__, filz_write_first(ws, FILZ_WORDS, out, 0, &value), FILZ_SHORT_BUFFER);
     expect(__LINE__, filz_open(none, 0, 1, 1, 1, 2, &value), FILZ_WRONG_LENGTH);
+    expect(__LINE__, filz_write_first(none, 0, out, 0, &value), FILZ_WRONG_LENGTH);
 
     /* an earlier refusal comes first */
     expect(__LINE__, filz_book(ws, FILZ_WORDS, 1, 7, NULL, 0, &value), FILZ_NAME_TAKEN);
     expect(__LINE__, filz_book(ws, FILZ_WORDS, 2, 0, NULL, 0, &value), FILZ_BAD_SLOT);
     expect(__LINE__, filz_poll(ws, FILZ_WORDS, 9, NULL, 0, &value), FILZ_UNKNOWN_NAME);
     expect(__LINE__, filz_poll(ws, FILZ_WORDS, 0, NULL, 0, &value), FILZ_NOT_WAITING);
+    if (out[0] != 77) {
+        fprintf(stderr, "a byte changed\n");
+        wrong++;
+    }
     return wrong != 0;
 }

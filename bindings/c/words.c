@@ -1,6 +1,6 @@
 /*
- * Where each word stands: after the run below, and after refused calls, every word of the workspace is the one worked out
- * by hand, at the place that the header names. Prints nothing and ends with 0 if that is so.
+ * Where each word stands: after the run below, after its day file was written and after refused calls, every word of the
+ * workspace is the one worked out by hand, at the place that the header names. Prints nothing and ends with 0 if that is so.
  */
 #include "filzhammer.h"
 
@@ -64,16 +64,26 @@ static uint32_t run(void)
     return sum;
 }
 
+/* The day file, written: 0 if that is taken, with the 88 bytes that day_file.txt shows. */
+static int written(void)
+{
+    static uint8_t file[FILZ_FILE_MOST];
+    int64_t value = 77;
+    return filz_write_first(ws, FILZ_WORDS, file, sizeof file, &value) != FILZ_TAKEN || value != 88;
+}
+
 /* A refused call of each kind, none of which may change a word: 0 if their numbers are right and their values 0. */
 static int refused(void)
 {
     const uint64_t unknown[1] = {9};
     const uint8_t votes[3] = {FILZ_YES, FILZ_YES, FILZ_YES};
-    int64_t open_value = 77, book_value = 77, poll_value = 77, lead_value = 77;
+    uint8_t file[87];
+    int64_t open_value = 77, book_value = 77, poll_value = 77, lead_value = 77, write_value = 77;
     return filz_open(ws, FILZ_WORDS, 2, 1, 1, 2, &open_value) != FILZ_BAD_SETTING || open_value != 0
         || filz_book(ws, FILZ_WORDS, 5, 9, unknown, 1, &book_value) != FILZ_UNKNOWN_PARENT || book_value != 0
         || filz_poll(ws, FILZ_WORDS, 1, votes, 3, &poll_value) != FILZ_NOT_WAITING || poll_value != 0
-        || filz_lead(ws, FILZ_WORDS, 9, &lead_value) != FILZ_UNKNOWN_NAME || lead_value != 0;
+        || filz_lead(ws, FILZ_WORDS, 9, &lead_value) != FILZ_UNKNOWN_NAME || lead_value != 0
+        || filz_write_first(ws, FILZ_WORDS, file, sizeof file, &write_value) != FILZ_SHORT_BUFFER || write_value != 0;
 }
 
 int main(void)
@@ -93,6 +103,10 @@ int main(void)
 
     if (run() != FILZ_TAKEN) {
         fprintf(stderr, "a call was refused\n");
+        return 1;
+    }
+    if (written() != 0) {
+        fprintf(stderr, "the day file was refused or has another length\n");
         return 1;
     }
     if (refused() != 0) {

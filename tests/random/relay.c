@@ -2,8 +2,8 @@
  * Makes calls of the C face for whoever asks through a pipe: for a caller that cannot link the library, because it is
  * compiled for another machine than x86-64.
  *
- * A request is a struct asked, the words, and the parents or the votes; the answer is a struct told and the words as the
- * call left them. Both sides have the lowest byte first. Ends with the input.
+ * A request is a struct asked, the words, the parents or the votes, and the bytes of a buffer to be written; the answer is a
+ * struct told, and the words and the buffer as the call left them. Both sides have the lowest byte first. Ends with the input.
  */
 #include "filzhammer.h"
 
@@ -11,41 +11,49 @@
 #include <stdlib.h>
 
 /* The calls, in the order of the header. */
-enum kind { OPEN, BOOK, POLL, QUERY, ACCEPTED, LEAD, CONFIDENCE, SIZE };
+enum kind { OPEN, BOOK, POLL, QUERY, ACCEPTED, LEAD, CONFIDENCE, SIZE, WRITE_FIRST };
 
 struct asked {
     uint64_t kind;
     uint64_t words;
     uint64_t name;
     uint64_t count;      /* of parents or votes */
+    uint64_t room;       /* bytes of the buffer */
     uint16_t numbers[4]; /* the slot, or the setting */
 };
 
 struct told {
     uint64_t number;
-    uint64_t is_intact; /* no word beside the lent ones was written */
+    uint64_t is_intact; /* nothing beside the lent words and the lent bytes was written */
     int64_t value;
 };
 
-/* Words on each side of the lent ones, which no call may write. */
-#define GUARD 256
+/* Bytes on each side of what is lent, which no call may write. */
+#define GUARD 512
 
-/* Differs from word to word. */
-static uint16_t guard_word(size_t at)
+/* Memory to lend. */
+struct lent {
+    uint8_t *memory;
+    uint8_t *bytes; /* what is lent, between two guards */
+    size_t count;
+};
+
+/* Differs from byte to byte. */
+static uint8_t guard_byte(size_t at)
 {
-    return (uint16_t)(0xa500u ^ (at * 40503u));
+    return (uint8_t)(0xa5u ^ (at * 183u));
 }
 
-static void put_guard(uint16_t *words)
+static void put_guard(uint8_t *bytes)
 {
     for (size_t at = 0; at < GUARD; at++)
-        words[at] = guard_word(at);
+        bytes[at] = guard_byte(at);
 }
 
-static int is_guard(const uint16_t *words)
+static int is_guard(const uint8_t *bytes)
 {
     for (size_t at = 0; at < GUARD; at++)
-        if (words[at] != guard_word(at))
+        if (bytes[at] != guard_byte(at))
             return 0;
     return 1;
 }
@@ -76,7 +84,24 @@ static void write_all(const void *bytes, size_t count)
         give_up("nobody takes the answer");
 }
 
-static uint32_t call(const struct asked *asked, uint16_t *ws, const void *list, int64_t *value)
+/* Lends so many bytes of the request, from a place that is odd or even. */
+static struct lent lend(size_t count, size_t odd)
+{
+    struct lent lent = {NULL, NULL, count};
+    lent.memory = (uint8_t *)room(odd + GUARD + count + GUARD);
+    lent.bytes = lent.memory + odd + GUARD;
+    put_guard(lent.bytes - GUARD);
+    put_guard(lent.bytes + count);
+    read_all(lent.bytes, count);
+    return lent;
+}
+
+static int is_intact(const struct lent *lent)
+{
+    return is_guard(lent->bytes - GUARD) && is_guard(lent->bytes + lent->count);
+}
+
+static uint32_t call(const struct asked *asked, uint16_t *ws, const void *list, uint8_t *out, int64_t *value)
 {
     const size_t words = asked->words;
     const uint64_t name = asked->name;
@@ -98,6 +123,8 @@ static uint32_t call(const struct asked *asked, uint16_t *ws, const void *list, 
         return filz_confidence(ws, words, name, value);
     case SIZE:
         return filz_size(ws, words, name, value);
+    case WRITE_FIRST:
+        return filz_write_first(ws, words, out, asked->room, value);
     }
     give_up("no such call");
     return 0;
@@ -106,23 +133,22 @@ static uint32_t call(const struct asked *asked, uint16_t *ws, const void *list, 
 static void serve(const struct asked *asked)
 {
     const size_t listed = asked->count * (asked->kind == BOOK ? sizeof(uint64_t) : 1);
-    uint16_t *before = (uint16_t *)room((GUARD + asked->words + GUARD) * sizeof *before);
-    uint16_t *ws = before + GUARD;
-    uint16_t *behind = ws + asked->words;
+    struct lent words = lend(asked->words * sizeof(uint16_t), 0);
     void *list = room(listed);
+    struct lent out;
     struct told told = {0, 0, 0x5a5a5a5a}; /* so that a value that is not written shows */
-    put_guard(before);
-    put_guard(behind);
-    read_all(ws, asked->words * sizeof *ws);
     read_all(list, listed);
-    told.number = call(asked, ws, list, &told.value);
-    told.is_intact = is_guard(before) && is_guard(behind);
+    out = lend(asked->room, 1);
+    told.number = call(asked, (uint16_t *)(void *)words.bytes, list, out.bytes, &told.value);
+    told.is_intact = is_intact(&words) && is_intact(&out);
     write_all(&told, sizeof told);
-    write_all(ws, asked->words * sizeof *ws);
+    write_all(words.bytes, words.count);
+    write_all(out.bytes, out.count);
     if (fflush(stdout) != 0)
         give_up("nobody takes the answer");
+    free(out.memory);
     free(list);
-    free(before);
+    free(words.memory);
 }
 
 int main(void)

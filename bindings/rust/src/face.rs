@@ -38,6 +38,13 @@ extern "C" {
     fn filz_lead(ws: *const u16, words: usize, name: u64, value: *mut i64) -> u32;
     fn filz_confidence(ws: *const u16, words: usize, name: u64, value: *mut i64) -> u32;
     fn filz_size(ws: *const u16, words: usize, name: u64, value: *mut i64) -> u32;
+    fn filz_write_first(
+        ws: *const u16,
+        words: usize,
+        out: *mut u8,
+        bytes: usize,
+        value: *mut i64,
+    ) -> u32;
 }
 
 /// A call that writes its value through the pointer: the value if it is taken, else the refusal.
@@ -107,4 +114,11 @@ pub fn confidence(ws: &[u16], name: u64) -> Result<i64, Refusal> {
 
 pub fn size(ws: &[u16], name: u64) -> Result<i64, Refusal> {
     read(filz_size, ws, name)
+}
+
+pub fn write_first(ws: &[u16], out: &mut [u8]) -> Result<i64, Refusal> {
+    // SAFETY: see the top of this file.
+    ask(|value| unsafe {
+        filz_write_first(ws.as_ptr(), ws.len(), out.as_mut_ptr(), out.len(), value)
+    })
 }

@@ -2,6 +2,7 @@
 //!
 //! A caller lends [`WORDS`] words of 16 bits. [`open`] makes them a ledger, [`book`] enters a booking, [`poll`] enters the
 //! votes of a completed poll, and the readings [`query`], [`accepted`], [`lead`], [`confidence`] and [`size`] answer by name.
+//! [`write_first`] writes the ledger as a file, into bytes that are lent too.
 //! Nothing is allocated and nothing is kept outside the lent words: copy them, store them, or have as many ledgers as you like.
 //!
 //! ```
@@ -25,11 +26,11 @@
 //!
 //! 1. **Every call ends in an answer, and a refused call leaves no trace.** Any words and any arguments may be passed; nothing
 //!    has to be tested first, and no call panics. Which refusal is given is settled for every input, the first of the call's
-//!    list that applies, and so is the row that it names. Then no word has changed. Whatever a taken call leaves is again a
-//!    sound ledger.
+//!    list that applies, and so is the row that it names. Then no word has changed, and no byte of a buffer for a file.
+//!    Whatever a taken call leaves is again a sound ledger.
 //! 2. **Answers and words are those of the rules, to the last word.** The rules say what an ancestry is (the booking and
-//!    everything reached through parents, each once), when a poll succeeds and what it writes, what a query answers and
-//!    when a booking is accepted. For the same words and arguments there is one possible outcome, and it is this one. Of the
+//!    everything reached through parents, each once), when a poll succeeds and what it writes, what a query answers,
+//!    when a booking is accepted, and each byte of a day file. For the same words and arguments there is one possible outcome, and it is this one. Of the
 //!    bookings of a slot never more than one is accepted at a time.
 //! 3. **Confidence is earned.** Over every run since the last taken opening, whatever calls came in whatever order: a booking's
 //!    confidence is the number of successful polls of bookings that have it in their ancestry; all confidences together are the
@@ -75,6 +76,46 @@
 //! ```
 //!
 //! A refused call has changed nothing, so the words can still be looked at. Put a good copy back, or open anew.
+//!
+//! # The day file
+//!
+//! [`write_first`] writes today's ledger as bytes, to hand over to a neighbour: three sections, each after its count. A number
+//! takes two bytes and a name eight, the highest byte first.
+//!
+//! 1. 4, then k, a, beta1 and beta2.
+//! 2. How many bookings there are beside the genesis, then for each, from number 1 on: its name, its slot, how many parents it
+//!    has, and the parents' numbers.
+//! 3. How many polls were taken, then for each, in that order: the booking's number, and 1 if the poll succeeded or 0.
+//!
+//! ```
+//! use filzhammer::{book, open, poll, write_first, Refusal, Setting, FILE_MOST, NO, WORDS, YES};
+//!
+//! let mut ledger = [0u16; WORDS];
+//! open(&mut ledger, Setting { k: 1, a: 1, beta1: 1, beta2: 2 })?;
+//! book(&mut ledger, 0x0102_0304_0506_0708, 7, &[0])?; // number 1
+//! book(&mut ledger, 1, 255, &[0x0102_0304_0506_0708, 0])?; // number 2
+//! poll(&mut ledger, 1, &[YES])?; // of number 2
+//! poll(&mut ledger, 0x0102_0304_0506_0708, &[NO])?; // of number 1
+//!
+//! let mut room = [0u8; FILE_MOST]; // enough for every ledger
+//! let length = write_first(&ledger, &mut room)?;
+//! let expected = [
+//!     0, 4, 0, 1, 0, 1, 0, 1, 0, 2, // the setting
+//!     0, 2, // two bookings
+//!     1, 2, 3, 4, 5, 6, 7, 8, 0, 7, 0, 1, 0, 0, // the name, slot 7, one parent: 0, the genesis
+//!     0, 0, 0, 0, 0, 0, 0, 1, 0, 255, 0, 2, 0, 1, 0, 0, // the name 1, slot 255, two parents: 1 and 0
+//!     0, 2, // two polls
+//!     0, 2, 0, 1, // the first was of number 2, and succeeded
+//!     0, 1, 0, 0, // the second was of number 1, and did not
+//! ];
+//! assert_eq!(room[..length], expected);
+//!
+//! assert_eq!(write_first(&ledger, &mut room[..length - 1]), Err(Refusal::ShortBuffer));
+//! # Ok::<(), Refusal>(())
+//! ```
+//!
+//! Confidences, preferences and single votes are not in it: they follow from the bookings and the outcomes, or no longer
+//! matter. `docs/DAYFILE.md` of the repository explains a file byte by byte.
 #![no_std]
 #![warn(missing_docs)]
 
@@ -88,6 +129,13 @@ pub const WORDS: usize = 7176;
 
 /// How many bookings a ledger holds, with the genesis.
 pub const BOOKINGS: usize = 512;
+
+/// How many bytes the shortest day file has, that of the genesis alone.
+pub const FILE_LEAST: usize = 14;
+
+/// How many bytes the longest day file has, that of a full ledger with as many parents as there can be and all polls. A
+/// buffer of so many bytes has room for every file.
+pub const FILE_MOST: usize = 12266;
 
 /// The vote of a station that prefers the booking and its whole ancestry.
 pub const YES: u8 = 1;
@@ -184,4 +232,15 @@ pub fn confidence(ws: &[u16], name: u64) -> Result<i64, Refusal> {
 /// How many members the booking's ancestry has, itself among them: from 1 to 512. Refuses as [`query`] does.
 pub fn size(ws: &[u16], name: u64) -> Result<i64, Refusal> {
     face::size(ws, name)
+}
+
+/// Writes the ledger's day file, in its first form, to the front of `out`, and gives its length, [`FILE_LEAST`] to
+/// [`FILE_MOST`]. The bytes past the file stay as they were; if it is refused, all do.
+///
+/// Refuses [`WrongLength`](Refusal::WrongLength), [`DamagedHeader`](Refusal::DamagedHeader),
+/// [`DamagedRecord`](Refusal::DamagedRecord), [`DamagedSlot`](Refusal::DamagedSlot),
+/// [`ShortBuffer`](Refusal::ShortBuffer), in this order.
+pub fn write_first(ws: &[u16], out: &mut [u8]) -> Result<usize, Refusal> {
+    // A length of at most FILE_MOST.
+    face::write_first(ws, out).map(|length| length as usize)
 }

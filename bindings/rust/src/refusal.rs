@@ -42,6 +42,8 @@ pub enum Refusal {
     DamagedRecord(u16),
     /// Header and records are right and a slot's entry breaks a rule: the lowest such slot, 0 to 255.
     DamagedSlot(u16),
+    /// The buffer is shorter than the file. [`FILE_MOST`](crate::FILE_MOST) bytes are enough for any.
+    ShortBuffer,
 }
 
 impl Refusal {
@@ -63,6 +65,7 @@ impl Refusal {
             Refusal::BadVote => 13,
             Refusal::DamagedRecord(_) => 14,
             Refusal::DamagedSlot(_) => 15,
+            Refusal::ShortBuffer => 16,
         }
     }
 
@@ -106,6 +109,7 @@ impl Refusal {
             (13, 0) => Refusal::BadVote,
             (14, 0..=512) => Refusal::DamagedRecord(row),
             (15, 0..=255) => Refusal::DamagedSlot(row),
+            (16, 0) => Refusal::ShortBuffer,
             _ => return None,
         })
     }
@@ -127,6 +131,7 @@ impl fmt::Display for Refusal {
             Refusal::NotWaiting => "the booking was polled before",
             Refusal::WrongVotes => "the number of votes is not that of the setting",
             Refusal::BadVote => "a vote is neither yes, no nor silent",
+            Refusal::ShortBuffer => "the buffer is shorter than the file",
             Refusal::DamagedRecord(512) => "an ordinal is missing in a full ledger (record 512)",
             Refusal::DamagedRecord(record) => {
                 return write!(f, "record {record} breaks a rule, and none below it")

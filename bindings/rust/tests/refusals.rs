@@ -1,4 +1,5 @@
-//! Each refusal on both sides of its border, in its order, with no word changed. Damage, 2, 14 and 15, has `damage.rs`.
+//! Each refusal on both sides of its border, in its order, with no word changed. Damage, 2, 14 and 15, has `damage.rs`, and 16
+//! has `day_file.rs`.
 use filzhammer::*;
 
 mod refused;
@@ -22,7 +23,7 @@ fn ledger() -> [u16; WORDS] {
 }
 
 /// Each refusal once, the rows by their greatest.
-const EACH: [Refusal; 15] = [
+const EACH: [Refusal; 16] = [
     Refusal::WrongLength,
     Refusal::DamagedHeader,
     Refusal::BadSetting,
@@ -38,13 +39,14 @@ const EACH: [Refusal; 15] = [
     Refusal::BadVote,
     Refusal::DamagedRecord(512),
     Refusal::DamagedSlot(255),
+    Refusal::ShortBuffer,
 ];
 
 #[test]
-fn the_numbers_are_1_to_15() {
+fn the_numbers_are_1_to_16() {
     assert_eq!(
         EACH.map(Refusal::number).to_vec(),
-        (1..=15).collect::<Vec<u32>>()
+        (1..=16).collect::<Vec<u32>>()
     );
     for refusal in EACH {
         assert!(!refusal.to_string().is_empty());
@@ -53,8 +55,9 @@ fn the_numbers_are_1_to_15() {
 
 #[test]
 fn two_refusals_name_a_row() {
-    for refusal in &EACH[..13] {
-        assert_eq!(refusal.row(), None);
+    for refusal in EACH {
+        let names_one = [14, 15].contains(&refusal.number());
+        assert_eq!(refusal.row().is_some(), names_one);
     }
     assert_eq!(Refusal::DamagedRecord(0).row(), Some(0));
     assert_eq!(Refusal::DamagedRecord(512).row(), Some(512));
@@ -94,12 +97,12 @@ fn number_and_value_lead_back() {
             assert_eq!(Refusal::from_answer(number, value), None);
         }
     }
-    for number in 1..=13 {
+    for number in (1..=13).chain([16]) {
         for value in [-1, 1, 65536] {
             assert_eq!(Refusal::from_answer(number, value), None);
         }
     }
-    for number in [0, 16, u32::MAX] {
+    for number in [0, 17, u32::MAX] {
         assert_eq!(Refusal::from_answer(number, 0), None);
     }
 }

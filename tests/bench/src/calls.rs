@@ -1,11 +1,12 @@
-//! Nanoseconds of each call, and of comparing the words with a copy.
+//! Nanoseconds of each call, of a reading on the same words, and of comparing
+//! the words with a copy.
 //!
 //! Every call is timed by itself. A sample of several calls lasts about as
 //! long as the machine lets a program run before another's turn, so that on a
 //! busy machine more than half of one side's samples can be interrupted, and
 //! the middle one with them. A single call is seldom interrupted.
 
-use crate::ledgers::{case, Case, SIZES};
+use crate::ledgers::{case, SIZES};
 use random::call::{Call, Face, Second};
 use std::hint::black_box;
 use std::time::Instant;
@@ -21,12 +22,15 @@ pub struct Cost {
     pub n: usize,
     /// Nothing if the product was not linked.
     pub ours: Option<f64>,
+    /// The product's confidence on the same words: what a call costs beyond
+    /// finding the ledger sound shows beside it.
+    pub reading: Option<f64>,
     pub second: f64,
     /// The second program once more: what differs from it is chance.
     pub control: f64,
     /// Comparing the bytes of the workspace with a copy.
     pub memcmp: f64,
-    pub note: &'static str,
+    pub note: String,
 }
 
 #[cfg(feature = "station")]
@@ -48,26 +52,37 @@ pub fn measure() -> Vec<Cost> {
 fn measure_case(kind: &'static str, n: usize) -> Cost {
     let case = case(kind, n);
     let copy = case.ws.clone();
-    let mut ws = case.ws.clone();
-    let faces: [Option<&dyn Face>; 3] = [OURS, Some(&Second), Some(&Second)];
-    let mut times: [Vec<f64>; 3] = Default::default();
+    let (mut ws, mut out) = (case.ws.clone(), case.call.lent_bytes());
+    let (call, reading) = (&case.call, &case.reading());
+    let sides: [(Option<&dyn Face>, &Call); 4] = [
+        (OURS, call),
+        (Some(&Second), call),
+        (Some(&Second), call),
+        (OURS, reading),
+    ];
+    let mut times: [Vec<f64>; 4] = Default::default();
     let mut memcmp = Vec::new();
     for turn in 0..SAMPLES {
-        for place in 0..faces.len() {
-            let who = (turn + place) % faces.len();
-            if let Some(face) = faces[who] {
-                times[who].push(sample(face, &case, &mut ws));
+        for place in 0..sides.len() {
+            let who = (turn + place) % sides.len();
+            if let (Some(face), call) = sides[who] {
+                // The words are copied anew outside of the time taken, so
+                // they are warm and the same for every call.
+                ws.copy_from_slice(&case.ws);
+                times[who].push(sample(face, call, &mut ws, &mut out));
             }
         }
         memcmp.push(timed(BATCH, || {
             black_box(black_box(&case.ws[..]) == black_box(&copy[..]));
         }));
     }
-    let [ours, second, control] = times;
+    let [ours, second, control, reading] = times;
+    let of_ours = |times: Vec<f64>| (!times.is_empty()).then(|| middle(times));
     Cost {
         kind,
         n,
-        ours: (!ours.is_empty()).then(|| middle(ours)),
+        ours: of_ours(ours),
+        reading: of_ours(reading),
         second: middle(second),
         control: middle(control),
         memcmp: middle(memcmp),
@@ -75,12 +90,10 @@ fn measure_case(kind: &'static str, n: usize) -> Cost {
     }
 }
 
-/// One call. The words are copied anew outside of the time taken, so they
-/// are warm and the same for every call.
-fn sample(face: &dyn Face, case: &Case, ws: &mut [u16]) -> f64 {
-    ws.copy_from_slice(&case.ws);
+/// One call.
+fn sample(face: &dyn Face, call: &Call, ws: &mut [u16], out: &mut [u8]) -> f64 {
     timed(1, || {
-        black_box(face.call(black_box(ws), black_box(&case.call)));
+        black_box(face.call(black_box(ws), black_box(out), black_box(call)));
     })
 }
 
@@ -100,10 +113,11 @@ pub fn middle(mut samples: Vec<f64>) -> f64 {
 pub fn print(costs: &[Cost]) {
     println!("calls: nanoseconds, the middle of {SAMPLES} calls, words warm");
     let clock = middle((0..SAMPLES).map(|_| timed(1, || ())).collect());
-    println!("reading the clock costs {clock:.0}, and is in every call\n");
+    println!("reading the clock costs {clock:.0}, and is in every call");
+    println!("a reading is our confidence of the last booking on the same words\n");
     println!(
-        "{:<11} {:>4} {:>11} {:>11} {:>8} {:>12} {:>12}",
-        "call", "n", "ours", "second", "memcmp", "ours/second", "ours/memcmp"
+        "{:<11} {:>4} {:>11} {:>11} {:>8} {:>12} {:>12} {:>13}",
+        "call", "n", "ours", "second", "memcmp", "ours/second", "ours/memcmp", "ours/reading"
     );
     for cost in costs {
         let number = |value: Option<f64>, digits: usize| match value {
@@ -111,7 +125,7 @@ pub fn print(costs: &[Cost]) {
             None => "-".to_string(),
         };
         println!(
-            "{:<11} {:>4} {:>11} {:>11.0} {:>8.0} {:>12} {:>12}  {}",
+            "{:<11} {:>4} {:>11} {:>11.0} {:>8.0} {:>12} {:>12} {:>13}  {}",
             cost.kind,
             cost.n,
             number(cost.ours, 0),
@@ -119,6 +133,12 @@ pub fn print(costs: &[Cost]) {
             cost.memcmp,
             number(cost.ours.map(|ours| ours / cost.second), 2),
             number(cost.ours.map(|ours| ours / cost.memcmp), 1),
+            number(
+                cost.ours
+                    .zip(cost.reading)
+                    .map(|(ours, reading)| ours / reading),
+                2
+            ),
             cost.note
         );
     }

@@ -5,8 +5,8 @@ use random::call::Call;
 use second::layout::BOOKINGS;
 use std::fmt::Write;
 
-/// A panel for each call, four in a row.
-const COLUMNS: usize = 4;
+/// A panel for each call, three in a row.
+const COLUMNS: usize = 3;
 const WIDTH: f64 = 250.0;
 const HEIGHT: f64 = 210.0;
 /// Room around the drawing of a panel, and above all panels.

@@ -1,5 +1,6 @@
 //! A call, and who answers it.
 
+use crate::prng::Prng;
 use second::ledger::Reading;
 use second::setting::Setting;
 use second::words::{self, Answer};
@@ -17,10 +18,32 @@ pub enum Call {
         votes: Vec<u8>,
     },
     Read(Reading, u64),
+    /// The day file, into the buffer.
+    WriteFirst(Buffer),
+}
+
+/// A buffer to lend: how many bytes it has, and where they are drawn from.
+#[derive(Clone, Copy, Debug, PartialEq, Eq)]
+pub struct Buffer {
+    pub room: usize,
+    pub seed: u64,
+}
+
+impl Buffer {
+    /// What stands in it before a call.
+    pub fn bytes(self) -> Vec<u8> {
+        let mut prng = Prng::new(self.seed);
+        let mut bytes = Vec::with_capacity(self.room + 8);
+        while bytes.len() < self.room {
+            bytes.extend(prng.draw().to_le_bytes());
+        }
+        bytes.truncate(self.room);
+        bytes
+    }
 }
 
 impl Call {
-    pub const KINDS: [&'static str; 8] = [
+    pub const KINDS: [&'static str; 9] = [
         "open",
         "book",
         "poll",
@@ -29,6 +52,7 @@ impl Call {
         "lead",
         "confidence",
         "size",
+        "write_first",
     ];
 
     pub fn kind(&self) -> &'static str {
@@ -37,20 +61,45 @@ impl Call {
             Call::Book { .. } => "book",
             Call::Poll { .. } => "poll",
             Call::Read(reading, _) => reading.word(),
+            Call::WriteFirst(_) => "write_first",
+        }
+    }
+
+    /// Kinds that the console has a line for.
+    pub fn lines() -> impl Iterator<Item = &'static str> {
+        Call::KINDS
+            .into_iter()
+            .filter(|kind| *kind != "write_first")
+    }
+
+    /// Whether a taken call of this kind changes words.
+    pub fn is_change(&self) -> bool {
+        match self {
+            Call::Open(_) | Call::Book { .. } | Call::Poll { .. } => true,
+            Call::Read(..) | Call::WriteFirst(_) => false,
+        }
+    }
+
+    /// The bytes that the call lends beside the words: mostly none.
+    pub fn lent_bytes(&self) -> Vec<u8> {
+        match self {
+            Call::WriteFirst(buffer) => buffer.bytes(),
+            _ => Vec::new(),
         }
     }
 }
 
-/// Someone who answers calls on lent words.
+/// Someone who answers calls on lent words, and on the bytes that the call
+/// lends.
 pub trait Face {
-    fn call(&self, ws: &mut [u16], call: &Call) -> Answer;
+    fn call(&self, ws: &mut [u16], out: &mut [u8], call: &Call) -> Answer;
 }
 
 /// The second program.
 pub struct Second;
 
 impl Face for Second {
-    fn call(&self, ws: &mut [u16], call: &Call) -> Answer {
+    fn call(&self, ws: &mut [u16], out: &mut [u8], call: &Call) -> Answer {
         match call {
             Call::Open(s) => words::open(ws, s.k, s.a, s.beta1, s.beta2),
             Call::Book {
@@ -60,6 +109,7 @@ impl Face for Second {
             } => words::book(ws, *name, *slot, parents),
             Call::Poll { name, votes } => words::poll(ws, *name, votes),
             Call::Read(reading, name) => words::read(ws, *reading, *name),
+            Call::WriteFirst(_) => words::write_first(ws, out),
         }
     }
 }

@@ -1,9 +1,11 @@
 //! A call that shows something on a given ledger: one meant to be taken, or
 //! one meant for a certain refusal.
 
-use crate::call::Call;
+use crate::call::{Buffer, Call};
+use crate::file;
 use crate::grow::{good_setting, Style};
 use crate::prng::Prng;
+use second::day::{LONGEST_FILE, SHORTEST_FILE};
 use second::layout::PARENTS;
 use second::ledger::{Ledger, Reading, State};
 use second::setting::Setting;
@@ -48,9 +50,45 @@ const AIMS: [(usize, Aim); 16] = [
     (2, Aim::ReadUnknown),
 ];
 
+/// How many calls of a hundred write the day file.
+const WRITES: usize = 15;
+
 /// A call on the ledger. The style says which slots, parents and names are
 /// likely.
 pub fn choose(prng: &mut Prng, ledger: &Ledger, style: &Style) -> Call {
+    if prng.chance(WRITES) {
+        let room = any_room(prng, file::length(ledger));
+        return write_into(prng, room);
+    }
+    choose_line(prng, ledger, style)
+}
+
+/// The day file, into a buffer with so much room.
+pub fn write_into(prng: &mut Prng, room: usize) -> Call {
+    let seed = prng.draw();
+    Call::WriteFirst(Buffer { room, seed })
+}
+
+/// Room for a file of this length, or not: shorter than any file, around this
+/// one, for the longest, and at times so much that its low sixteen bits are
+/// too little.
+fn any_room(prng: &mut Prng, length: usize) -> usize {
+    match prng.below(14) {
+        0 => 0,
+        1 => 1,
+        2 => SHORTEST_FILE - 1,
+        3 | 4 => length - 1,
+        5 | 6 => length,
+        7 => length + 1,
+        8 => length + prng.between(2, 2000),
+        9 | 10 => LONGEST_FILE,
+        11 => 65_536 + prng.pick(&[0, 1, length - 1, length]),
+        _ => prng.below(2 * length),
+    }
+}
+
+/// A call that the console has a line for.
+pub fn choose_line(prng: &mut Prng, ledger: &Ledger, style: &Style) -> Call {
     let aim = prng.weigh(&AIMS);
     match aim {
         Aim::Open => Call::Open(good_setting(prng)),

@@ -2,17 +2,19 @@
 //!
 //! A run starts from a ledger (reached by a history, or sound without one)
 //! and makes calls on it. Some calls are made on a copy that is damaged or
-//! has another length. After each call the numbers, the values, all words and
-//! the guard words are compared; on reached ledgers the laws are checked, and
-//! the row named for damage is held to where it was done.
+//! has another length. After each call the numbers, the values, all words, the
+//! lent bytes and the guards are compared; on reached ledgers the laws are
+//! checked, the row named for damage is held to where it was done, and a day
+//! file is read back.
 
 use crate::call::{Call, Face};
-use crate::choose::choose;
+use crate::choose::{choose, write_into};
 use crate::damage::Damaged;
-use crate::grow::{any_size, grow, words_of, Style};
+use crate::file;
+use crate::grow::{any_size, grow, grow_longest, words_of, Style};
 use crate::guard::Guarded;
 use crate::prng::Prng;
-use crate::report::words_text;
+use crate::report::{bytes_text, words_text};
 use crate::scramble::scramble;
 use crate::tally::{Tally, LAWS, REACHED, TOLD, UNREACHED};
 use second::codec::decode;
@@ -25,6 +27,8 @@ use std::fmt::{self, Display, Formatter};
 
 /// Calls in a run.
 const RUN_CALLS: usize = 50;
+/// One run of so many starts from a ledger with the longest day file.
+const LONGEST_EVERY: usize = 60;
 
 /// A difference, with the run that led to it as text.
 #[derive(Debug)]
@@ -87,8 +91,13 @@ impl<'a> Contest<'a> {
     ) -> Contest<'a> {
         let style = Style::any(prng);
         let size = any_size(prng, run);
-        let mut grown = grow(prng, style, size);
-        let is_reached = prng.chance(60);
+        let is_longest = run % LONGEST_EVERY == 0;
+        let mut grown = if is_longest {
+            grow_longest(prng, style)
+        } else {
+            grow(prng, style, size)
+        };
+        let is_reached = is_longest || prng.chance(60);
         if !is_reached {
             scramble(prng, &mut grown.ledger);
         }
@@ -115,8 +124,14 @@ impl<'a> Contest<'a> {
     }
 
     fn run(&mut self, prng: &mut Prng, tally: &mut Tally, calls: usize) -> Result<(), String> {
-        for _ in 0..calls {
+        for made in 0..calls {
             let ledger = decode(&self.ws).map_err(|damage| format!("unsound: {:?}", damage.0))?;
+            // Whatever a run starts from is written once.
+            if made == 0 {
+                let call = write_into(prng, file::length(&ledger));
+                self.step(ledger, &call, tally)?;
+                continue;
+            }
             let call = choose(prng, &ledger, &self.style);
             match prng.below(100) {
                 0..=3 => {
@@ -196,10 +211,11 @@ impl<'a> Contest<'a> {
         call: &Call,
         tally: &mut Tally,
     ) -> Result<(Answer, Vec<u16>), String> {
-        let mut ours = Guarded::new(before);
-        let our_answer = self.ours.call(ours.lend(), call);
-        let mut theirs = before.to_vec();
-        let their_answer = self.theirs.call(&mut theirs, call);
+        let lent = call.lent_bytes();
+        let (mut ours, mut our_bytes) = (Guarded::new(before), Guarded::new(&lent[..]));
+        let our_answer = self.ours.call(ours.lend(), our_bytes.lend(), call);
+        let (mut theirs, mut their_bytes) = (before.to_vec(), lent.clone());
+        let their_answer = self.theirs.call(&mut theirs, &mut their_bytes, call);
 
         self.steps.push(Step {
             note,
@@ -209,8 +225,9 @@ impl<'a> Contest<'a> {
         });
         let differs = |what: &str| {
             let made = &self.steps[self.steps.len() - 1];
-            let (before, ours) = (words_text(before), words_text(ours.words()));
-            let theirs = words_text(&theirs);
+            let text = |words, bytes| format!("{}{}", words_text(words), bytes_text(bytes));
+            let (before, ours) = (text(before, &lent), text(ours.lent(), our_bytes.lent()));
+            let theirs = text(&theirs, &their_bytes);
             Err(format!(
                 "{what}\n{made}\nbefore: {before}\nours: {ours}\ntheirs: {theirs}"
             ))
@@ -218,18 +235,30 @@ impl<'a> Contest<'a> {
         if our_answer != their_answer {
             return differs("another answer");
         }
-        if ours.words() != theirs {
+        if ours.lent() != theirs {
             return differs("other words");
+        }
+        let mut pairs = our_bytes.lent().iter().zip(&their_bytes);
+        if let Some(at) = pairs.position(|(ours, theirs)| ours != theirs) {
+            return differs(&format!("other bytes, from {at} on"));
         }
         if !ours.is_intact() {
             return differs("a word outside the lent ones was written");
         }
-        let may_change = our_answer.0 == 0 && !matches!(call, Call::Read(..));
+        if !our_bytes.is_intact() {
+            return differs("a byte outside the lent ones was written");
+        }
+        let may_change = our_answer.0 == 0 && call.is_change();
         if !may_change && theirs != before {
             return differs("a refused call or a reading changed a word");
         }
         if may_change && decode(&theirs).is_err() {
             return differs("a taken call left unsound words");
+        }
+        if let Call::WriteFirst(_) = call {
+            if let Err(what) = check_bytes(our_answer, &lent, &their_bytes, before, &verdict) {
+                return differs(&what);
+            }
         }
         tally.add_call(call, our_answer, &verdict);
         Ok((our_answer, theirs))
@@ -243,8 +272,8 @@ impl<'a> Contest<'a> {
         let mut told_otherwise = None;
         let picture = Picture::of_words(&self.ws, |name| {
             let call = Call::Read(Reading::Accepted, name);
-            let answer = self.ours.call(guarded.lend(), &call);
-            if answer != self.theirs.call(&mut theirs, &call) {
+            let answer = self.ours.call(guarded.lend(), &mut [], &call);
+            if answer != self.theirs.call(&mut theirs, &mut [], &call) {
                 told_otherwise = Some(name);
             }
             answer == (0, 1)
@@ -274,6 +303,40 @@ impl Display for Step {
         } = self;
         writeln!(f, "{note} {call:?}: ours {ours:?}, theirs {theirs:?}")
     }
+}
+
+/// Did writing the file of these words do what it has to, whoever else did
+/// the same? The buffer had the bytes `before` and has them `after`.
+fn check_bytes(
+    answer: Answer,
+    before: &[u8],
+    after: &[u8],
+    ws: &[u16],
+    verdict: &Result<Ledger, Damage>,
+) -> Result<(), String> {
+    let mut written = 0;
+    if let Ok(ledger) = verdict {
+        let (length, room) = (file::length(ledger), before.len());
+        let is_short = room < length;
+        let meant = if is_short {
+            (16, 0)
+        } else {
+            (0, length as i64)
+        };
+        written = if is_short { 0 } else { length };
+        if answer != meant {
+            return Err(format!(
+                "{length} bytes into {room}, answered {answer:?}, not {meant:?}"
+            ));
+        }
+    }
+    if after[written..] != before[written..] {
+        return Err("a byte was written that is none of the file".to_string());
+    }
+    if written > 0 {
+        file::check(&after[..written], ws)?;
+    }
+    Ok(())
 }
 
 /// Words of another length, at times one whose low sixteen bits are right.
@@ -329,5 +392,16 @@ mod tests {
         }
         let (_, difference) = compare(&Planted(None), &Planted(None), 2000, 1);
         assert!(difference.is_none());
+    }
+
+    /// Likewise a file that both write wrongly, and a buffer or words that
+    /// both leave changed.
+    #[test]
+    fn a_wrong_file_that_both_write_is_found() {
+        for plant in Plant::FILE.into_iter().chain(Plant::WRITING) {
+            let both = Planted(Some(plant));
+            let (_, difference) = compare(&both, &both, 10_000, 1);
+            assert!(difference.is_some(), "{plant:?}");
+        }
     }
 }

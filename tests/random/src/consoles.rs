@@ -191,11 +191,12 @@ fn flaw_seen(flaw: Flaw) -> String {
 
 /// What inputs should have shown and did not. Refusals 1, 14 and 15 cannot be
 /// had from text: its words have the right length, and are all zero or sound.
+/// Nor can 16: no line lends a buffer.
 pub fn missing(tally: &Tally) -> Vec<String> {
     let kinds = Kind::ALL.into_iter().map(kind_seen);
     let flaws = Flaw::ALL.into_iter().map(flaw_seen);
     let refusals = (2..=Refusal::VoteByte.number()).map(|number| format!("refused {number}"));
-    let calls = crate::call::Call::KINDS.map(|kind| format!("{kind} taken"));
+    let calls = crate::call::Call::lines().map(|kind| format!("{kind} taken"));
     let others = [
         "list taken",
         BAD_LINE.trim_end(),

@@ -176,7 +176,16 @@ impl Flaw {
             }
             Flaw::UnknownWord => {
                 let words = [
-                    "boook", "close", "lists", "ope", "pol", "0", "help", "siz", "#",
+                    "boook",
+                    "close",
+                    "lists",
+                    "ope",
+                    "pol",
+                    "0",
+                    "help",
+                    "siz",
+                    "#",
+                    "write_first",
                 ];
                 line.pieces[0] = prng.pick(&words).to_string();
             }

@@ -20,10 +20,18 @@ pub enum Shape {
     Diamonds,
     /// Any one to four.
     Any,
+    /// Any four, or all where there are less.
+    Most,
 }
 
 impl Shape {
-    pub const ALL: [Shape; 4] = [Shape::Wide, Shape::Chain, Shape::Diamonds, Shape::Any];
+    pub const ALL: [Shape; 5] = [
+        Shape::Wide,
+        Shape::Chain,
+        Shape::Diamonds,
+        Shape::Any,
+        Shape::Most,
+    ];
 
     /// Names of parents out of those booked, in order of booking.
     pub fn parents(self, prng: &mut Prng, booked: &[u64]) -> Vec<u64> {
@@ -32,6 +40,7 @@ impl Shape {
             Shape::Wide if prng.chance(70) => vec![booked[0]],
             Shape::Chain if prng.chance(90) => latest(1).to_vec(),
             Shape::Diamonds => prng.some(latest(4), 3),
+            Shape::Most => prng.sample(booked, PARENTS),
             Shape::Wide | Shape::Chain | Shape::Any => prng.some(booked, PARENTS),
         }
     }
@@ -187,6 +196,17 @@ pub fn grow(prng: &mut Prng, style: Style, n: usize) -> Grown {
         for _ in 0..n {
             add_poll(prng, &mut grown);
         }
+    }
+    grown
+}
+
+/// Grows a ledger with the longest day file: full, with as many parents as
+/// there can be, and all of it polled.
+pub fn grow_longest(prng: &mut Prng, style: Style) -> Grown {
+    let shape = Shape::Most;
+    let mut grown = grow(prng, Style { shape, ..style }, BOOKINGS);
+    while usize::from(grown.ledger.polls) < BOOKINGS - 1 {
+        add_poll(prng, &mut grown);
     }
     grown
 }

@@ -8,17 +8,20 @@
 //! - `grow`: ledgers that a history reaches
 //! - `scramble`: sound ledgers that no history reaches
 //! - `damage`: words that break sentences of soundness, and where
+//! - `file`: the day file read back
 //!
 //! Call against call:
 //! - `call`: a call, and who answers it
 //! - `choose`: a call that shows something on a given ledger
-//! - `guard`: lent memory with guard words around it
+//! - `guard`: lent memory with guards around it
 //! - `compare`: the runs
 //! - `tally`: what the runs have reached
+//! - `written`: the same of day files
 //! - `station`: the product through its C face
 //! - `relay`: the same in a program beside this one
 //! - `planted`: a copy of the rules with errors to be found
 //! - `misjudged`: the errors in what it says of damage
+//! - `miswritten`: the errors in the day files that it writes
 //!
 //! Console against console:
 //! - `flaw`: lines that are no command
@@ -32,10 +35,12 @@ pub mod choose;
 pub mod compare;
 pub mod consoles;
 pub mod damage;
+pub mod file;
 pub mod flaw;
 pub mod grow;
 pub mod guard;
 pub mod misjudged;
+pub mod miswritten;
 pub mod names;
 pub mod planted;
 pub mod prng;
@@ -46,3 +51,4 @@ pub mod scramble;
 pub mod station;
 pub mod tally;
 pub mod text;
+pub mod written;

@@ -139,7 +139,7 @@ impl Order {
                 unnoticed.push(plant);
             }
         };
-        for plant in Plant::ALL {
+        for plant in Plant::all() {
             let planted = Planted(Some(plant));
             let (tally, difference) = compare::compare(&planted, &Second, self.count, self.seed);
             let found = difference.map(|found| {

@@ -3,7 +3,9 @@
 
 use crate::call::{Call, Face};
 use crate::misjudged;
+use crate::miswritten;
 use second::codec::{encode, ledger_of};
+use second::day::SHORTEST_FILE;
 use second::layout::*;
 use second::ledger::{read_vote, Ledger, Reading, State, Vote};
 use second::refusal::Refusal;
@@ -45,10 +47,33 @@ pub enum Plant {
     DamageWithoutRow,
     UnknownNameBeforeDamage,
     RefusedCallMendsCounters,
+    // the day file
+    LowByteFirst,
+    HighByteLost,
+    NameLowByteFirst,
+    NameHalvesSwapped,
+    GenesisWritten,
+    ParentByName,
+    ParentsInRisingOrder,
+    PollsInBookingOrder,
+    EveryPollSucceeds,
+    OutcomeIsState,
+    WaitingWrittenAsFailed,
+    LengthOneShort,
+    JustEnoughRoomRefused,
+    LastByteCutOff,
+    RoomInSixteenBits,
+    ShortBufferBegun,
+    ByteWrittenPastFile,
+    RestOfBufferCleared,
+    // the call that writes it
+    ShortBufferBeforeDamage,
+    DamageClearsBuffer,
+    LengthKeptInHeader,
 }
 
 impl Plant {
-    pub const ALL: [Plant; 31] = [
+    const VOTE: [Plant; 11] = [
         Plant::NoTakesFromYes,
         Plant::NoReadAsYes,
         Plant::AncestorRaisedPerPath,
@@ -60,6 +85,8 @@ impl Plant {
         Plant::EqualUnknownParentsAreTwice,
         Plant::LongerWorkspaceTaken,
         Plant::RefusedPollMovesP,
+    ];
+    const DAMAGE: [Plant; 20] = [
         Plant::CounterBoundUntested,
         Plant::MissingOrdinalUntested,
         Plant::MissingOrdinalOfFullUntested,
@@ -81,14 +108,46 @@ impl Plant {
         Plant::UnknownNameBeforeDamage,
         Plant::RefusedCallMendsCounters,
     ];
+    pub const FILE: [Plant; 18] = [
+        Plant::LowByteFirst,
+        Plant::HighByteLost,
+        Plant::NameLowByteFirst,
+        Plant::NameHalvesSwapped,
+        Plant::GenesisWritten,
+        Plant::ParentByName,
+        Plant::ParentsInRisingOrder,
+        Plant::PollsInBookingOrder,
+        Plant::EveryPollSucceeds,
+        Plant::OutcomeIsState,
+        Plant::WaitingWrittenAsFailed,
+        Plant::LengthOneShort,
+        Plant::JustEnoughRoomRefused,
+        Plant::LastByteCutOff,
+        Plant::RoomInSixteenBits,
+        Plant::ShortBufferBegun,
+        Plant::ByteWrittenPastFile,
+        Plant::RestOfBufferCleared,
+    ];
+    pub const WRITING: [Plant; 3] = [
+        Plant::ShortBufferBeforeDamage,
+        Plant::DamageClearsBuffer,
+        Plant::LengthKeptInHeader,
+    ];
+
+    pub fn all() -> impl Iterator<Item = Plant> {
+        (Plant::VOTE.into_iter())
+            .chain(Plant::DAMAGE)
+            .chain(Plant::FILE)
+            .chain(Plant::WRITING)
+    }
 }
 
 /// The copy, with one error or none.
 pub struct Planted(pub Option<Plant>);
 
 impl Face for Planted {
-    fn call(&self, ws: &mut [u16], call: &Call) -> Answer {
-        match self.answer(ws, call) {
+    fn call(&self, ws: &mut [u16], out: &mut [u8], call: &Call) -> Answer {
+        match self.answer(ws, out, call) {
             Ok(value) => (0, value),
             Err(refusal) => (refusal.number(), refusal.value()),
         }
@@ -100,7 +159,7 @@ impl Planted {
         self.0 == Some(plant)
     }
 
-    fn answer(&self, ws: &mut [u16], call: &Call) -> Result<i64, Refusal> {
+    fn answer(&self, ws: &mut [u16], out: &mut [u8], call: &Call) -> Result<i64, Refusal> {
         let is_long = ws.len() > WORDS && self.has(Plant::LongerWorkspaceTaken);
         if ws.len() != WORDS && !is_long {
             return Err(Refusal::Length);
@@ -110,7 +169,7 @@ impl Planted {
             encode(&Ledger::open(*setting)?, ws);
             return Ok(0);
         }
-        let mut ledger = self.load(ws, call)?;
+        let mut ledger = self.load(ws, out, call)?;
         match call {
             Call::Open(_) => unreachable!("openings are done"),
             Call::Book {
@@ -141,14 +200,29 @@ impl Planted {
                 Ok(i64::from(self.accepted(&ledger)[b]))
             }
             Call::Read(reading, name) => ledger.read(*reading, *name),
+            Call::WriteFirst(_) => {
+                let length = miswritten::write(self.0, &ledger, out)?;
+                if self.has(Plant::LengthKeptInHeader) {
+                    ws[HEADER_WORDS - 1] = length as u16;
+                }
+                Ok(length as i64)
+            }
         }
     }
 
     /// The test of soundness, with the errors planted in it and around it.
-    fn load(&self, ws: &mut [u16], call: &Call) -> Result<Ledger, Refusal> {
+    fn load(&self, ws: &mut [u16], out: &mut [u8], call: &Call) -> Result<Ledger, Refusal> {
         let Some(refusal) = misjudged::refusal(self.0, ws) else {
             return Ok(ledger_of(ws));
         };
+        if let Call::WriteFirst(_) = call {
+            if self.has(Plant::ShortBufferBeforeDamage) && out.len() < SHORTEST_FILE {
+                return Err(Refusal::Room);
+            }
+            if self.has(Plant::DamageClearsBuffer) {
+                out.fill(0);
+            }
+        }
         if self.has(Plant::RefusedCallMendsCounters) {
             for entry in ws[ENTRIES_START..].chunks_mut(ENTRY_WORDS) {
                 entry[COUNTER] = entry[COUNTER].min(BOOKINGS as u16 - 1);

@@ -68,9 +68,15 @@ impl Prng {
 
     /// Up to `most` different members, at least one, in any order.
     pub fn some<T: Clone>(&mut self, from: &[T], most: usize) -> Vec<T> {
+        let count = self.between(1, most.min(from.len()));
+        self.sample(from, count)
+    }
+
+    /// `count` different members in any order, or all where there are less.
+    pub fn sample<T: Clone>(&mut self, from: &[T], count: usize) -> Vec<T> {
         let mut all = from.to_vec();
         self.shuffle(&mut all);
-        all.truncate(self.between(1, most.min(all.len())));
+        all.truncate(count);
         all
     }
 }

@@ -7,7 +7,7 @@ use std::cell::RefCell;
 use std::io::{self, Read, Write};
 use std::process::{Child, ChildStdin, ChildStdout, Command, Stdio};
 
-/// Told of a call that wrote beside the lent words. No call gives it.
+/// Told of a call that wrote beside what it was lent. No call gives it.
 pub const WROTE_OUTSIDE: u32 = u32::MAX;
 
 /// A running `relay.c`.
@@ -39,9 +39,9 @@ impl Relay {
         }
     }
 
-    fn ask(&self, ws: &mut [u16], call: &Call) -> io::Result<Answer> {
+    fn ask(&self, ws: &mut [u16], out: &mut [u8], call: &Call) -> io::Result<Answer> {
         let (stdin, stdout) = &mut *self.pipes.borrow_mut();
-        stdin.write_all(&request(ws, call))?;
+        stdin.write_all(&request(ws, out, call))?;
         let mut told = [[0; 8]; 3];
         for number in &mut told {
             stdout.read_exact(number)?;
@@ -51,6 +51,7 @@ impl Relay {
         for (word, bytes) in ws.iter_mut().zip(left.chunks_exact(2)) {
             *word = u16::from_le_bytes([bytes[0], bytes[1]]);
         }
+        stdout.read_exact(out)?;
         let [number, is_intact, value] = told.map(u64::from_le_bytes);
         if is_intact == 0 {
             return Ok((WROTE_OUTSIDE, 0));
@@ -60,14 +61,15 @@ impl Relay {
 }
 
 impl Face for Relay {
-    fn call(&self, ws: &mut [u16], call: &Call) -> Answer {
-        self.ask(ws, call)
+    fn call(&self, ws: &mut [u16], out: &mut [u8], call: &Call) -> Answer {
+        self.ask(ws, out, call)
             .unwrap_or_else(|error| panic!("the relay no longer answers: {error}, on {call:?}"))
     }
 }
 
-/// A call as `struct asked` of `relay.c`, with the words and its list.
-fn request(ws: &[u16], call: &Call) -> Vec<u8> {
+/// A call as `struct asked` of `relay.c`, with the words, its list and the
+/// bytes that it lends.
+fn request(ws: &[u16], out: &[u8], call: &Call) -> Vec<u8> {
     let kind = Call::KINDS.iter().position(|kind| *kind == call.kind());
     let (name, numbers, count, list) = match call {
         Call::Open(s) => (0, [s.k, s.a, s.beta1, s.beta2], 0, Vec::new()),
@@ -81,12 +83,15 @@ fn request(ws: &[u16], call: &Call) -> Vec<u8> {
         }
         Call::Poll { name, votes } => (*name, [0; 4], votes.len(), votes.clone()),
         Call::Read(_, name) => (*name, [0; 4], 0, Vec::new()),
+        Call::WriteFirst(_) => (0, [0; 4], 0, Vec::new()),
     };
     let kind = kind.expect("every kind is listed") as u64;
-    let head = [kind, ws.len() as u64, name, count as u64];
+    let [words, count, room] = [ws.len(), count, out.len()].map(|n| n as u64);
+    let head = [kind, words, name, count, room];
     let mut bytes: Vec<u8> = head.iter().flat_map(|n| n.to_le_bytes()).collect();
     bytes.extend(numbers.iter().flat_map(|n| n.to_le_bytes()));
     bytes.extend(ws.iter().flat_map(|word| word.to_le_bytes()));
     bytes.extend(list);
+    bytes.extend(out);
     bytes
 }

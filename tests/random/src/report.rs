@@ -15,6 +15,19 @@ pub fn write(name: &str, bytes: &[u8]) -> io::Result<PathBuf> {
     Ok(path)
 }
 
+/// Bytes as text, in lines of thirty-two that name the first one's place.
+pub fn bytes_text(bytes: &[u8]) -> String {
+    let mut text = format!("{} bytes\n", bytes.len());
+    for (line, bytes) in bytes.chunks(32).enumerate() {
+        write!(text, "{:>10}:", 32 * line).expect("a string takes text");
+        for byte in bytes {
+            write!(text, " {byte:02x}").expect("a string takes text");
+        }
+        text.push('\n');
+    }
+    text
+}
+
 /// Words as text, a line for the header, for each record and for each entry.
 /// All-zero records and empty entries are left out; a line names its place.
 pub fn words_text(ws: &[u16]) -> String {

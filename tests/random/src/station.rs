@@ -36,6 +36,13 @@ extern "C" {
     fn filz_lead(ws: *const u16, words: usize, name: u64, value: *mut i64) -> u32;
     fn filz_confidence(ws: *const u16, words: usize, name: u64, value: *mut i64) -> u32;
     fn filz_size(ws: *const u16, words: usize, name: u64, value: *mut i64) -> u32;
+    fn filz_write_first(
+        ws: *const u16,
+        words: usize,
+        out: *mut u8,
+        bytes: usize,
+        value: *mut i64,
+    ) -> u32;
 }
 
 /// What stands in the value before a call, so that one that is not written
@@ -45,7 +52,7 @@ const UNWRITTEN: i64 = 0x5a5a_5a5a;
 pub struct Station;
 
 impl Face for Station {
-    fn call(&self, ws: &mut [u16], call: &Call) -> Answer {
+    fn call(&self, ws: &mut [u16], out: &mut [u8], call: &Call) -> Answer {
         let words = ws.len();
         let mut value = UNWRITTEN;
         // SAFETY: every pointer is that of a slice with the length given
@@ -91,6 +98,9 @@ impl Face for Station {
                         Reading::Size => filz_size,
                     };
                     read(ws.as_ptr(), words, *name, &mut value)
+                }
+                Call::WriteFirst(_) => {
+                    filz_write_first(ws.as_ptr(), words, out.as_mut_ptr(), out.len(), &mut value)
                 }
             }
         };

@@ -1,8 +1,11 @@
 //! What the runs have reached. A run that reached too little is a failure:
 //! it would have found nothing.
 
-use crate::call::Call;
+use crate::call::{Buffer, Call};
 use crate::damage::Kind;
+use crate::file;
+use crate::written::{FILES, ROOMS};
+use second::day::{LONGEST_FILE, SHORTEST_FILE};
 use second::layout::{BOOKINGS, SLOTS};
 use second::ledger::Ledger;
 use second::refusal::Refusal;
@@ -31,6 +34,9 @@ impl Tally {
         self.calls += 1;
         let (number, value) = answer;
         let kind = call.kind();
+        if let Call::WriteFirst(buffer) = call {
+            self.add_write(*buffer, number, before);
+        }
         if number != 0 {
             self.add(format!("{kind} refused"));
             self.add(refused(number));
@@ -58,6 +64,29 @@ impl Tally {
                 _ => (),
             },
             _ => (),
+        }
+    }
+
+    /// Counts how much room a file had, and what was in it. Of words that
+    /// have no file it is counted whether any could have been written.
+    fn add_write(&mut self, buffer: Buffer, number: u32, before: &Result<Ledger, Damage>) {
+        let Ok(ledger) = before else {
+            if buffer.room < SHORTEST_FILE {
+                self.add(hides_short_buffer(number));
+            } else if buffer.room >= LONGEST_FILE {
+                self.add(keeps_long_buffer(number));
+            }
+            return;
+        };
+        for (case, is_met) in ROOMS {
+            if is_met(buffer.room, file::length(ledger)) {
+                self.add(case);
+            }
+        }
+        for (case, is_met) in FILES {
+            if number == 0 && is_met(ledger) {
+                self.add(case);
+            }
         }
     }
 
@@ -94,7 +123,12 @@ impl Tally {
         let sentences = (Broken::ALL.into_iter().filter(by_itself).map(alone))
             .chain(Broken::ALL.into_iter().map(among_others));
         let damages = Kind::all().map(done);
-        let cases = CASES.into_iter().map(|(case, _)| case.to_string());
+        let damaged = [1, 2, 14, 15].into_iter();
+        let cases = (CASES.into_iter().map(|(case, _)| case.to_string()))
+            .chain(ROOMS.into_iter().map(|(case, _)| case.to_string()))
+            .chain(FILES.into_iter().map(|(case, _)| case.to_string()))
+            .chain(damaged.clone().map(hides_short_buffer))
+            .chain(damaged.map(keeps_long_buffer));
         let outcomes = [
             CHIT,
             NO_CHIT,
@@ -145,6 +179,14 @@ fn among_others(broken: Broken) -> String {
 
 fn done(kind: Kind) -> String {
     format!("done: {kind:?}")
+}
+
+fn hides_short_buffer(number: u32) -> String {
+    format!("{number} hides 16")
+}
+
+fn keeps_long_buffer(number: u32) -> String {
+    format!("{number} with room for any file")
 }
 
 /// A name, and whether damage is a case of it.
@@ -253,6 +295,7 @@ impl Display for Tally {
 #[cfg(test)]
 mod tests {
     use super::*;
+    use second::setting::Setting;
     use Place::*;
 
     /// Damage with these breaches is a case of exactly these.
@@ -353,13 +396,16 @@ mod tests {
         }
     }
 
+    fn is_missing(tally: &Tally, what: &str) -> bool {
+        tally.missing().iter().any(|missing| missing == what)
+    }
+
     /// What a run never reached is told, and what it reached is not.
     #[test]
     fn what_was_not_reached_is_missing() {
         let mut tally = Tally::default();
         let call = Call::Read(second::ledger::Reading::Size, 0);
         let damage = Damage([(Slot(255), Broken::EmptySlotFilled)].into());
-        let is_missing = |tally: &Tally, what: &str| tally.missing().iter().any(|m| m == what);
         let reached = [
             "refusal 15",
             "broken alone: EmptySlotFilled",
@@ -379,6 +425,55 @@ mod tests {
             "14 names 512",
         ] {
             assert!(is_missing(&tally, what));
+        }
+    }
+
+    /// The same of a file: how much room it had, what was in it, and which
+    /// refusal came before.
+    #[test]
+    fn what_was_not_written_is_missing() {
+        let ledger = || Ok(Ledger::open(Setting::PAPER).expect("it is good"));
+        let damage = || Err(Damage([(Header, Broken::SettingBad)].into()));
+        type Step = (
+            usize,
+            Answer,
+            Result<Ledger, Damage>,
+            &'static [&'static str],
+        );
+        let steps: [Step; 4] = [
+            (
+                14,
+                (0, 14),
+                ledger(),
+                &["room: just enough", "file: the genesis alone"],
+            ),
+            (
+                13,
+                (16, 0),
+                ledger(),
+                &["refusal 16", "room: one byte too little"],
+            ),
+            (13, (2, 0), damage(), &["refusal  2", "2 hides 16"]),
+            (12_266, (2, 0), damage(), &["2 with room for any file"]),
+        ];
+        let mut tally = Tally::default();
+        for (room, answer, before, reached) in steps {
+            for what in reached {
+                assert!(is_missing(&tally, what), "{what}");
+            }
+            let call = Call::WriteFirst(Buffer { room, seed: 0 });
+            tally.add_call(&call, answer, &before);
+            for what in reached {
+                assert!(!is_missing(&tally, what), "{what}");
+            }
+        }
+        for what in [
+            "15 hides 16",
+            "14 with room for any file",
+            "room: none",
+            "file: the longest",
+        ] {
+            assert!(is_missing(&tally, what), "{what}");
         }
     }
 }

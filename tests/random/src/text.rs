@@ -1,7 +1,7 @@
 //! Inputs of all kinds for the consoles.
 
 use crate::call::Call;
-use crate::choose::choose;
+use crate::choose::choose_line;
 use crate::flaw::Flaw;
 use crate::grow::{grow, Shape, Style};
 use crate::names::Names;
@@ -207,7 +207,7 @@ impl Writer {
                 continue;
             }
             let ledger = self.ledger.as_mut().expect("it was just grown");
-            let call = choose(prng, ledger, &grown.style);
+            let call = choose_line(prng, ledger, &grown.style);
             follow(ledger, &call);
             self.call(prng, &call);
         }
@@ -270,6 +270,7 @@ impl Writer {
                 }
             }
             Call::Read(_, name) => number(prng, *name),
+            Call::WriteFirst(_) => unreachable!("the console has no line for it"),
         }
         self.line(line.as_bytes());
     }
@@ -298,7 +299,7 @@ fn follow(ledger: &mut Ledger, call: &Call) {
             parents,
         } => ledger.book(*name, *slot, parents),
         Call::Poll { name, votes } => ledger.poll(*name, votes),
-        Call::Read(..) => Ok(()),
+        Call::Read(..) | Call::WriteFirst(_) => Ok(()),
     };
 }
 

@@ -1,8 +1,8 @@
 //! The rules of the vote, on a ledger kept in maps.
 //!
 //! Nothing here knows of words or text. Refusals 3 to 13 are decided here,
-//! in the order of their table; 1, 2, 14 and 15 belong to whoever keeps the
-//! ledger.
+//! in the order of their table; the others are about what was lent, and
+//! belong to whoever keeps the ledger.
 
 use crate::layout::{BOOKINGS, PARENTS, SLOTS};
 use crate::refusal::Refusal;

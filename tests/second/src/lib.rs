@@ -10,6 +10,7 @@
 //! - `ledger`: the rules of the vote, on maps
 //! - `sound`: which sentences of soundness words break, and at which row
 //! - `codec`: words to a ledger and back
+//! - `day`: the day file, as bytes
 //! - `words`: the public calls on lent words
 //! - `command`: a line of text to a command
 //! - `console`: the text program
@@ -18,6 +19,7 @@
 pub mod codec;
 pub mod command;
 pub mod console;
+pub mod day;
 pub mod laws;
 pub mod layout;
 pub mod ledger;

@@ -33,10 +33,12 @@ pub enum Refusal {
     /// Header and records are right and a slot entry breaks a rule: the
     /// lowest that does.
     BrokenEntry(usize),
+    /// The buffer is shorter than the file.
+    Room,
 }
 
 impl Refusal {
-    pub const HIGHEST: u32 = 15;
+    pub const HIGHEST: u32 = 16;
 
     pub fn number(self) -> u32 {
         match self {
@@ -55,6 +57,7 @@ impl Refusal {
             Refusal::VoteByte => 13,
             Refusal::BrokenRecord(_) => 14,
             Refusal::BrokenEntry(_) => 15,
+            Refusal::Room => 16,
         }
     }
 

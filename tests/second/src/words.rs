@@ -2,8 +2,10 @@
 //!
 //! Every call reads the words into a ledger, works there, and writes the
 //! whole ledger back only when it was taken. So a refused call changes none.
+//! Likewise a day file is whole before the first of its bytes is written.
 
 use crate::codec::{encode, ledger_of};
+use crate::day::Day;
 use crate::layout::WORDS;
 use crate::ledger::{Ledger, Reading};
 use crate::refusal::Refusal;
@@ -83,4 +85,14 @@ pub fn confidence(ws: &[u16], name: u64) -> Answer {
 
 pub fn size(ws: &[u16], name: u64) -> Answer {
     read(ws, Reading::Size, name)
+}
+
+/// The day file at the front of the buffer; the value is its length.
+pub fn write_first(ws: &[u16], out: &mut [u8]) -> Answer {
+    answer(load(ws).and_then(|ledger| {
+        let file = Day::of(&ledger).file();
+        let front = out.get_mut(..file.len()).ok_or(Refusal::Room)?;
+        front.copy_from_slice(&file);
+        Ok(file.len() as i64)
+    }))
 }

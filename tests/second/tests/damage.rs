@@ -396,6 +396,7 @@ fn another_length_comes_before_all_damage() {
         for reading in [query, accepted, lead, confidence, size] {
             assert_eq!(reading(&ws, 0), (1, 0));
         }
+        assert_eq!(write_first(&ws, &mut []), (1, 0));
         assert_eq!(ws, before);
     }
 }

@@ -1,6 +1,7 @@
 //! Every refusal on both sides of its border, the order of refusals, and
 //! that a refused call changes no word. All have value 0 but 14 and 15, of
-//! which `soundness.rs` and `damage.rs` say more.
+//! which `soundness.rs` and `damage.rs` say more; of the day file's refusals
+//! `day_file.rs` does.
 
 mod ledgers;
 use ledgers::*;
@@ -213,6 +214,19 @@ fn refusal_13_a_byte_that_is_no_vote() {
     for byte in [0, 1, 255] {
         polls(0, 4, &[byte, byte, byte]);
     }
+}
+
+/// Run's file has 88 bytes.
+#[test]
+fn refusal_16_a_short_buffer() {
+    let ws = run_polled(4);
+    answers(&ws, 16, |ws| write_first(ws, &mut []));
+    answers(&ws, 16, |ws| write_first(ws, &mut [0; 87]));
+    names(&ws, 0, 88, |ws| write_first(ws, &mut [0; 88]));
+    names(&ws, 0, 88, |ws| write_first(ws, &mut [0; 89]));
+    // It is the last refusal of the call.
+    answers(&vec![0; WORDS], 2, |ws| write_first(ws, &mut []));
+    answers(&ws[1..], 1, |ws| write_first(ws, &mut []));
 }
 
 /// A no takes nothing from the yes votes, and silence is no vote at all.

@@ -1,4 +1,4 @@
-//! A call is refused as it should be, with no word changed. What several test files ask.
+//! A call is refused as it should be, with no word and no byte changed. What several test files ask.
 use filzhammer::*;
 
 /// The call is refused so, and leaves the words alone.
@@ -30,10 +30,29 @@ pub fn readings_refused(refusal: Refusal, ws: &[u16], name: u64) {
     }
 }
 
+/// What stands in a buffer before a call: no byte is like its neighbours.
+pub fn filled(bytes: usize) -> Vec<u8> {
+    (0..bytes).map(|at| (at as u8).wrapping_mul(37)).collect()
+}
+
+/// Writing the day file into so many bytes is refused so, and leaves the bytes alone, and those around them.
+#[track_caller]
+pub fn write_refused(refusal: Refusal, ws: &mut [u16], bytes: usize) {
+    let before = filled(8 + bytes + 8);
+    let mut after = before.clone();
+    refused(refusal, ws, |ws| {
+        write_first(ws, &mut after[8..8 + bytes]).map(drop)
+    });
+    assert_eq!(after, before, "a refused call changed a byte");
+}
+
 /// Every call but open is refused so, whatever else is wrong with it.
 #[track_caller]
 pub fn all_refused(refusal: Refusal, ws: &mut [u16]) {
     book_refused(refusal, ws, 0, 0, &[]);
     poll_refused(refusal, ws, 9, &[2]);
     readings_refused(refusal, ws, 9);
+    for bytes in [0, FILE_LEAST - 1, FILE_MOST] {
+        write_refused(refusal, ws, bytes);
+    }
 }

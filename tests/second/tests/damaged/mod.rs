@@ -3,6 +3,7 @@
 
 use crate::ledgers::*;
 use second::codec::decode;
+use second::day::{LONGEST_FILE, SHORTEST_FILE};
 use second::sound::{judge, Broken, Damage, Place};
 use second::words::*;
 
@@ -28,6 +29,12 @@ pub fn refused(number: u32, value: i64, breaches: &[Breach], ws: &[u16]) {
     for reading in [query, accepted, lead, confidence, size] {
         assert_eq!(reading(&after, 0), answer);
         assert_eq!(reading(&after, 77), answer);
+    }
+    // Room for any file, for none, and none at all.
+    for room in [LONGEST_FILE, SHORTEST_FILE - 1, 0] {
+        let mut out = vec![0xa5; room];
+        assert_eq!(write_first(&after, &mut out), answer);
+        assert_eq!(out, vec![0xa5; room]);
     }
     assert_eq!(after, ws);
 
