@@ -97,16 +97,18 @@ unfoldable pub exampleRows : List (List Got)
 exampleRows = given (is 88) (fileSays ++ 8 ∷ 9 ∷ []) ∷ []
 
 -- ---- a ledger where no name is its booking's number, parents are not given in rising number, and high bytes are not all 0. The first poll is of name 2,
--- which is number 3, and succeeds; the second is of number 1, and fails by 32 yes of 33 needed, whatever confidence the first gave it. Number 2 waits
+-- which is number 3, and succeeds; the second is of number 1, and fails by 32 yes of 33 needed, whatever confidence the first gave it. Numbers 2 and 4
+-- wait; 4 has as many parents as a booking can have
 
 abbrev pub secondSays : List ℕ
 secondSays =
     0 ∷ 4  -- 64, 33, 300, 510
     ∷ 0 ∷ 64 ∷ 0 ∷ 33 ∷ 1 ∷ 44 ∷ 1 ∷ 254
-    ∷ 0 ∷ 3  -- bookings
+    ∷ 0 ∷ 4  -- bookings
     ∷ 255 ∷ 255 ∷ 255 ∷ 255 ∷ 255 ∷ 255 ∷ 255 ∷ 255 ∷ 0 ∷ 255 ∷ 0 ∷ 1 ∷ 0 ∷ 0
     ∷ 1 ∷ 2 ∷ 3 ∷ 4 ∷ 5 ∷ 6 ∷ 7 ∷ 8 ∷ 0 ∷ 1 ∷ 0 ∷ 1 ∷ 0 ∷ 1
     ∷ 0 ∷ 0 ∷ 0 ∷ 0 ∷ 0 ∷ 0 ∷ 0 ∷ 2 ∷ 0 ∷ 128 ∷ 0 ∷ 3 ∷ 0 ∷ 2 ∷ 0 ∷ 0 ∷ 0 ∷ 1
+    ∷ 0 ∷ 0 ∷ 0 ∷ 0 ∷ 0 ∷ 0 ∷ 1 ∷ 2 ∷ 0 ∷ 128 ∷ 0 ∷ 4 ∷ 0 ∷ 3 ∷ 0 ∷ 0 ∷ 0 ∷ 2 ∷ 0 ∷ 1
     ∷ 0 ∷ 2  -- polls
     ∷ 0 ∷ 3 ∷ 0 ∷ 1
     ∷ 0 ∷ 1 ∷ 0 ∷ 0
@@ -120,12 +122,13 @@ second c =
     let booked1 = c .book empty highest 255 (0 ∷ []) .words in
     let booked2 = c .book booked1 mixed 1 (highest ∷ []) .words in
     let booked3 = c .book booked2 2 128 (mixed ∷ 0 ∷ highest ∷ []) .words in
-    let poll3 = c .poll booked3 2 (replicate 33 1 ++ replicate 31 255) .words in
+    let booked4 = c .book booked3 258 128 (2 ∷ 0 ∷ mixed ∷ highest ∷ []) .words in
+    let poll3 = c .poll booked4 2 (replicate 33 1 ++ replicate 31 255) .words in
     let poll1 = c .poll poll3 highest (replicate 32 1 ++ replicate 32 0) .words in
-    written c poll1 (replicate 68 7 ++ 8 ∷ []) ∷ []
+    written c poll1 (replicate 88 7 ++ 8 ∷ []) ∷ []
 
 unfoldable pub secondRows : List (List Got)
-secondRows = given (is 68) (secondSays ++ 8 ∷ []) ∷ []
+secondRows = given (is 88) (secondSays ++ 8 ∷ []) ∷ []
 
 -- ---- the genesis alone, with the paper's setting
 

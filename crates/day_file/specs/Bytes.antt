@@ -49,6 +49,7 @@ pollBytes q = numberBytes (q .booking) ++ numberBytes (bit (q .success))
 abbrev pub pollsSection : List DayPoll → List ℕ
 pollsSection = counted pollBytes
 
+-- the three in their order
 unfoldable pub encode : Day → List ℕ
 encode d = settingSection (d .setting) ++ bookingsSection (d .bookings) ++ pollsSection (d .polls)
 
