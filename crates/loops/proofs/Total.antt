@@ -1,6 +1,6 @@
 -- Laws of sums, counts and the greatest: one turn more, bounds, and sums of equal or growing parts.
 use mathlib.Core.Path.{_≡_, refl, sym, ap, ap₂, _∙_}
-use mathlib.Core.Bool.{Bool, true, false, _||_, or-false}
+use mathlib.Core.Bool.{Bool, true, false, not, _||_, or-false}
 use mathlib.Core.Logic.{_≢_, _⊎_, inl, inr, ⊎-elim}
 use Prim.Native.Nat.{ℕ, zero, suc, _+_, max, _<_, _≤_}
 use native.Mathlib.Numerals.{add-one}
@@ -8,10 +8,10 @@ use native.Mathlib.Nat.{add-zero, eq-or-lt-of-le, le-of-suc-le-suc}
 use native.Mathlib.Decide.{decLt, ℕ-discrete}
 use native.Mathlib.Omega.{arith}
 use lib.Dec.{ltb, eqb}
-use borrow.Author.Tests.{lt-ltb, eq-eqb, ne-eqb}
-use Rattle.loops.specs.Search.{first}
+use borrow.Author.Tests.{lt-ltb, eq-eqb, ne-eqb, not-true}
+use Rattle.loops.specs.Search.{first, all}
 use Rattle.loops.specs.Total.{bit, total, count, greatest}
-use Rattle.loops.proofs.Search.{first-unique}
+use Rattle.loops.proofs.Search.{first-unique, all→, any→, not-all}
 
 -- ---- bits
 
@@ -77,6 +77,12 @@ total-within f (suc n) j l =
     (λ (q : j < n). omega (arith, total-within f n j q))
     (eq-or-lt-of-le (le-of-suc-le-suc l))
 
+-- the parts below m, and then k more
+pub total-split : (f : ℕ → ℕ) (m k : ℕ) → total f (m + k) ≡ total f m + total (λ i. f (m + i)) k
+unfolding total
+total-split f m zero = ap (total f) (add-zero m) ∙ sym (add-zero (total f m))
+total-split f m (suc k) = let e : m + suc k ≡ suc (m + k) = omega arith in ap (total f) e ∙ omega (arith, total-split f m k)
+
 -- parts past m that are 0 add nothing
 pub total-cut : (f : ℕ → ℕ) (m k : ℕ) → ((i : ℕ) → m ≤ i → i < m + k → f i ≡ 0) → total f (m + k) ≡ total f m
 unfolding total
@@ -121,6 +127,21 @@ count-lt p (suc n) j l t =
     (λ (q : j ≡ n). let e : bit (p n) ≡ 0 = ap bit (ap p (sym q) ∙ t) in omega (arith, count-le p n))
     (λ (q : j < n). omega (arith, count-lt p n j q t, bit-le (p n)))
     (eq-or-lt-of-le (le-of-suc-le-suc l))
+
+-- all are counted exactly if all pass
+pub count-all : (p : ℕ → Bool) (n : ℕ) → eqb (count p n) n ≡ all p n
+unfolding total
+count-all p n = go (all p n) refl
+  where
+    ones : (k : ℕ) → total (λ i. 1) k ≡ k
+    ones zero = refl
+    ones (suc k) = omega (arith, ones k)
+
+    go : (t : Bool) → all p n ≡ t → eqb (count p n) n ≡ t
+    go true e = eq-eqb _ n (total-same (λ i. bit (p i)) (λ i. 1) n (λ i l. ap bit (all→ p n e i l)) ∙ ones n)
+    go false e =
+        let f = any→ (λ i. not (p i)) n (not-all p n ∙ ap not e) in
+        ne-eqb (count p n) n (λ q. omega (arith, count-lt p n (f .0) (f .1) (not-true (p (f .0)) (f .2))))
 
 -- none passes
 pub count-none : (p : ℕ → Bool) (n : ℕ) → ((i : ℕ) → i < n → p i ≡ false) → count p n ≡ 0

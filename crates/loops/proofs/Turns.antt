@@ -1,7 +1,7 @@
 -- Laws of a rule that is applied in rising number: its turns, and what every turn keeps.
-use mathlib.Core.Path.{_≡_, refl, ap, subst, _∙_}
+use mathlib.Core.Path.{_≡_, refl, sym, ap, subst, _∙_}
 use mathlib.Core.Logic.{⊎-elim}
-use Prim.Native.Nat.{ℕ, zero, suc, _+_, _<_}
+use Prim.Native.Nat.{ℕ, zero, suc, _+_, _<_, _≤_}
 use native.Mathlib.Numerals.{add-one}
 use native.Mathlib.Nat.{eq-or-lt-of-le, le-of-suc-le-suc}
 use native.Mathlib.Omega.{arith}
@@ -38,6 +38,16 @@ module _ {ℓ} {A : Type ℓ} (step : ℕ → A → A) where
       (λ (q : k ≡ n). subst (λ x. P (step x (upTo step x a))) q made)
       (λ (q : k < n). keep n q (omega arith) (upTo step n a) (upTo-since P n k q a made (λ j u v. keep j u (omega arith))))
       (eq-or-lt-of-le (le-of-suc-le-suc l))
+
+  -- turns from k on that change nothing
+  pub upTo-idle : (n k : ℕ) → k ≤ n → (a : A) → ((j : ℕ) → k ≤ j → j < n → step j (upTo step k a) ≡ upTo step k a) → upTo step n a ≡ upTo step k a
+  unfolding upTo
+  upTo-idle zero k l a idle = let e : k ≡ 0 = omega arith in rw e
+  upTo-idle (suc n) k l a idle =
+      ⊎-elim
+      (λ (q : k ≡ suc n). ap (λ x. upTo step x a) (sym q))
+      (λ (q : k < suc n). ap (step n) (upTo-idle n k (omega arith) a (λ j u v. idle j u (omega arith))) ∙ idle n (omega arith) (omega arith))
+      (eq-or-lt-of-le l)
 
   -- rules that agree at every turn below n end alike
   pub upTo-same : (other : ℕ → A → A) (n : ℕ) → ((j : ℕ) → j < n → (a : A) → step j a ≡ other j a) → (a : A) → upTo step n a ≡ upTo other n a
