@@ -22,6 +22,8 @@ pub struct Cost {
     pub n: usize,
     /// Nothing if the product was not linked.
     pub ours: Option<f64>,
+    /// Another build of the product, if one was given.
+    pub before: Option<f64>,
     /// The product's confidence on the same words: what a call costs beyond
     /// finding the ledger sound shows beside it.
     pub reading: Option<f64>,
@@ -34,33 +36,34 @@ pub struct Cost {
 }
 
 #[cfg(feature = "station")]
-const OURS: Option<&dyn Face> = Some(&random::station::Station);
+const OURS: Option<&dyn Face> = Some(&random::station::LINKED);
 #[cfg(not(feature = "station"))]
 const OURS: Option<&dyn Face> = None;
 
-pub fn measure() -> Vec<Cost> {
+pub fn measure(before: Option<&dyn Face>) -> Vec<Cost> {
     let mut costs = Vec::new();
     for kind in Call::KINDS {
         for n in SIZES {
-            costs.push(measure_case(kind, n));
+            costs.push(measure_case(kind, n, before));
         }
     }
     costs
 }
 
 /// All take turns, and take turns at being first.
-fn measure_case(kind: &'static str, n: usize) -> Cost {
+fn measure_case(kind: &'static str, n: usize, before: Option<&dyn Face>) -> Cost {
     let case = case(kind, n);
     let copy = case.ws.clone();
     let (mut ws, mut out) = (case.ws.clone(), case.call.lent_bytes());
     let (call, reading) = (&case.call, &case.reading());
-    let sides: [(Option<&dyn Face>, &Call); 4] = [
+    let sides: [(Option<&dyn Face>, &Call); 5] = [
         (OURS, call),
+        (before, call),
         (Some(&Second), call),
         (Some(&Second), call),
         (OURS, reading),
     ];
-    let mut times: [Vec<f64>; 4] = Default::default();
+    let mut times: [Vec<f64>; 5] = Default::default();
     let mut memcmp = Vec::new();
     for turn in 0..SAMPLES {
         for place in 0..sides.len() {
@@ -76,12 +79,13 @@ fn measure_case(kind: &'static str, n: usize) -> Cost {
             black_box(black_box(&case.ws[..]) == black_box(&copy[..]));
         }));
     }
-    let [ours, second, control, reading] = times;
+    let [ours, before, second, control, reading] = times;
     let of_ours = |times: Vec<f64>| (!times.is_empty()).then(|| middle(times));
     Cost {
         kind,
         n,
         ours: of_ours(ours),
+        before: of_ours(before),
         reading: of_ours(reading),
         second: middle(second),
         control: middle(control),
@@ -116,8 +120,17 @@ pub fn print(costs: &[Cost]) {
     println!("reading the clock costs {clock:.0}, and is in every call");
     println!("a reading is our confidence of the last booking on the same words\n");
     println!(
-        "{:<11} {:>4} {:>11} {:>11} {:>8} {:>12} {:>12} {:>13}",
-        "call", "n", "ours", "second", "memcmp", "ours/second", "ours/memcmp", "ours/reading"
+        "{:<11} {:>4} {:>11} {:>11} {:>11} {:>8} {:>12} {:>12} {:>12} {:>13}",
+        "call",
+        "n",
+        "ours",
+        "before",
+        "second",
+        "memcmp",
+        "ours/before",
+        "ours/second",
+        "ours/memcmp",
+        "ours/reading"
     );
     for cost in costs {
         let number = |value: Option<f64>, digits: usize| match value {
@@ -125,12 +138,19 @@ pub fn print(costs: &[Cost]) {
             None => "-".to_string(),
         };
         println!(
-            "{:<11} {:>4} {:>11} {:>11.0} {:>8.0} {:>12} {:>12} {:>13}  {}",
+            "{:<11} {:>4} {:>11} {:>11} {:>11.0} {:>8.0} {:>12} {:>12} {:>12} {:>13}  {}",
             cost.kind,
             cost.n,
             number(cost.ours, 0),
+            number(cost.before, 0),
             cost.second,
             cost.memcmp,
+            number(
+                cost.ours
+                    .zip(cost.before)
+                    .map(|(ours, before)| ours / before),
+                3
+            ),
             number(cost.ours.map(|ours| ours / cost.second), 2),
             number(cost.ours.map(|ours| ours / cost.memcmp), 1),
             number(

@@ -8,12 +8,14 @@ mod ledgers;
 mod picture;
 mod processes;
 
+use random::call::Face;
 use std::env;
-use std::path::PathBuf;
+use std::path::{Path, PathBuf};
 use std::process::ExitCode;
 
 const USAGE: &str = "\
-bench [--ours PATH --second PATH] [--svg PATH]
+bench [--before PATH] [--ours PATH --second PATH] [--svg PATH]
+  --before           another build of the product, a shared object
   --ours, --second   the two console programs
   --svg              where the picture goes, else beside this program";
 
@@ -25,7 +27,14 @@ fn main() -> ExitCode {
     if cfg!(debug_assertions) {
         println!("note: this is not a release build");
     }
-    let costs = calls::measure();
+    let before = match order.before.as_deref().map(load).transpose() {
+        Ok(before) => before,
+        Err(what) => {
+            println!("FAILED: {what}");
+            return ExitCode::FAILURE;
+        }
+    };
+    let costs = calls::measure(before.as_deref());
     calls::print(&costs);
     match (&order.ours, &order.second) {
         (Some(ours), Some(second)) => {
@@ -46,7 +55,18 @@ fn main() -> ExitCode {
     ExitCode::SUCCESS
 }
 
+/// Another build of the product.
+#[cfg(feature = "station")]
+fn load(path: &Path) -> Result<Box<dyn Face>, String> {
+    Ok(Box::new(random::station::Station::load(path)?))
+}
+#[cfg(not(feature = "station"))]
+fn load(_: &Path) -> Result<Box<dyn Face>, String> {
+    Err("--before compares with the product, which is not linked".to_string())
+}
+
 struct Order {
+    before: Option<PathBuf>,
     ours: Option<PathBuf>,
     second: Option<PathBuf>,
     svg: PathBuf,
@@ -55,6 +75,7 @@ struct Order {
 impl Order {
     fn read() -> Option<Order> {
         let mut order = Order {
+            before: None,
             ours: None,
             second: None,
             svg: env::current_exe().ok()?.with_file_name("cost.svg"),
@@ -63,6 +84,7 @@ impl Order {
         while let Some(argument) = arguments.next() {
             let path = PathBuf::from(arguments.next()?);
             match &argument[..] {
+                "--before" => order.before = Some(path),
                 "--ours" => order.ours = Some(path),
                 "--second" => order.second = Some(path),
                 "--svg" => order.svg = path,

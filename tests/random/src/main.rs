@@ -163,7 +163,7 @@ impl Order {
 
 #[cfg(feature = "station")]
 fn station() -> Result<&'static dyn Face, String> {
-    Ok(&random::station::Station)
+    Ok(&random::station::LINKED)
 }
 
 #[cfg(not(feature = "station"))]

@@ -1,8 +1,18 @@
-//! The product through its C face.
+//! The product through its C face: as it is linked in, or another build of it.
 
 use crate::call::{Call, Face};
 use second::ledger::Reading;
 use second::words::Answer;
+
+use std::ffi::{c_char, c_int, c_void, CString};
+use std::mem::transmute_copy;
+use std::path::Path;
+
+type Open = unsafe extern "C" fn(*mut u16, usize, u16, u16, u16, u16, *mut i64) -> u32;
+type Book = unsafe extern "C" fn(*mut u16, usize, u64, u16, *const u64, usize, *mut i64) -> u32;
+type Poll = unsafe extern "C" fn(*mut u16, usize, u64, *const u8, usize, *mut i64) -> u32;
+type Read = unsafe extern "C" fn(*const u16, usize, u64, *mut i64) -> u32;
+type Write = unsafe extern "C" fn(*const u16, usize, *mut u8, usize, *mut i64) -> u32;
 
 extern "C" {
     fn filz_open(
@@ -43,13 +53,84 @@ extern "C" {
         bytes: usize,
         value: *mut i64,
     ) -> u32;
+
+    fn dlopen(path: *const c_char, flags: c_int) -> *mut c_void;
+    fn dlsym(library: *mut c_void, name: *const c_char) -> *mut c_void;
 }
+
+/// All names are looked up as the library is loaded.
+const RTLD_NOW: c_int = 2;
 
 /// What stands in the value before a call, so that one that is not written
 /// shows.
 const UNWRITTEN: i64 = 0x5a5a_5a5a;
 
-pub struct Station;
+/// One build of the product, by its functions.
+pub struct Station {
+    open: Open,
+    book: Book,
+    poll: Poll,
+    query: Read,
+    accepted: Read,
+    lead: Read,
+    confidence: Read,
+    size: Read,
+    write_first: Write,
+}
+
+/// The build that is linked in.
+pub const LINKED: Station = Station {
+    open: filz_open,
+    book: filz_book,
+    poll: filz_poll,
+    query: filz_query,
+    accepted: filz_accepted,
+    lead: filz_lead,
+    confidence: filz_confidence,
+    size: filz_size,
+    write_first: filz_write_first,
+};
+
+impl Station {
+    /// Another build, from a shared object.
+    pub fn load(path: &Path) -> Result<Station, String> {
+        let at = path.to_str().and_then(|text| CString::new(text).ok());
+        let at = at.ok_or("its path is no text")?;
+        // SAFETY: the path ends with a NUL, and the library is never closed.
+        let library = unsafe { dlopen(at.as_ptr(), RTLD_NOW) };
+        if library.is_null() {
+            return Err(format!("{} can't be loaded", path.display()));
+        }
+        // SAFETY: each function has the type under which the header of that
+        // build declares it.
+        unsafe {
+            Ok(Station {
+                open: function(library, "filz_open")?,
+                book: function(library, "filz_book")?,
+                poll: function(library, "filz_poll")?,
+                query: function(library, "filz_query")?,
+                accepted: function(library, "filz_accepted")?,
+                lead: function(library, "filz_lead")?,
+                confidence: function(library, "filz_confidence")?,
+                size: function(library, "filz_size")?,
+                write_first: function(library, "filz_write_first")?,
+            })
+        }
+    }
+}
+
+/// A function of a loaded library.
+///
+/// # Safety
+/// `F` is the type of the function of that name.
+unsafe fn function<F>(library: *mut c_void, name: &str) -> Result<F, String> {
+    let symbol = CString::new(name).expect("names have no NUL");
+    let found = dlsym(library, symbol.as_ptr());
+    if found.is_null() {
+        return Err(format!("it has no {name}"));
+    }
+    Ok(transmute_copy(&found))
+}
 
 impl Face for Station {
     fn call(&self, ws: &mut [u16], out: &mut [u8], call: &Call) -> Answer {
@@ -59,7 +140,7 @@ impl Face for Station {
         // beside it, or of the value, and none is kept after the call.
         let number = unsafe {
             match call {
-                Call::Open(s) => filz_open(
+                Call::Open(s) => (self.open)(
                     ws.as_mut_ptr(),
                     words,
                     s.k,
@@ -72,7 +153,7 @@ impl Face for Station {
                     name,
                     slot,
                     parents,
-                } => filz_book(
+                } => (self.book)(
                     ws.as_mut_ptr(),
                     words,
                     *name,
@@ -81,7 +162,7 @@ impl Face for Station {
                     parents.len(),
                     &mut value,
                 ),
-                Call::Poll { name, votes } => filz_poll(
+                Call::Poll { name, votes } => (self.poll)(
                     ws.as_mut_ptr(),
                     words,
                     *name,
@@ -91,16 +172,16 @@ impl Face for Station {
                 ),
                 Call::Read(reading, name) => {
                     let read = match reading {
-                        Reading::Query => filz_query,
-                        Reading::Accepted => filz_accepted,
-                        Reading::Lead => filz_lead,
-                        Reading::Confidence => filz_confidence,
-                        Reading::Size => filz_size,
+                        Reading::Query => self.query,
+                        Reading::Accepted => self.accepted,
+                        Reading::Lead => self.lead,
+                        Reading::Confidence => self.confidence,
+                        Reading::Size => self.size,
                     };
                     read(ws.as_ptr(), words, *name, &mut value)
                 }
                 Call::WriteFirst(_) => {
-                    filz_write_first(ws.as_ptr(), words, out.as_mut_ptr(), out.len(), &mut value)
+                    (self.write_first)(ws.as_ptr(), words, out.as_mut_ptr(), out.len(), &mut value)
                 }
             }
         };
