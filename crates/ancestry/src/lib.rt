@@ -1,48 +1,77 @@
-// Who is reached from a booking, each member once: a byte for each booking, 1 at the members.
+// Who is reached from a booking, each member once: eight words, in which bit j is the mark of booking j.
 use rules::layout;
 ghost use mathlib.Core.Path.{_≡_};
-ghost use Prim.Native.Nat.{_<_, _≤_};
+ghost use Prim.Native.Nat.{_+_, _*_, _/_, _<_, _≤_};
 ghost use lib.ListN.{length};
-ghost use Rattle.rules.specs.Layout.{size, mostBookings};
-ghost use Rattle.rules.specs.Ancestry.{markParents, spread, sweep, unmarked, ancestry};
+ghost use Rattle.rules.specs.Layout.{bookings};
+ghost use Rattle.rules.specs.Sound.{Ledger};
+ghost use Rattle.rules.specs.Ancestry.{markParents, spread, sweep, ancestry};
+ghost use Rattle.bits.specs.Marks.{markWords, marksIn, marksWith, noMarks};
 
-// The marks with the parents of j too.
-fn mark_parents(w: &[u16], m: &mut [u8], j: usize)
-    requires { ⌜ (length (now w) ≡ size) × (j < mostBookings) ⌝ }
-    ensures { λ _. ⌜ now (m .exit) ≡ markParents (now (w .entry)) j (now (m .entry)) ⌝ }
+// The marks with the parents of j too. The word with j's own mark stands apart, and comes back: parents are often near.
+fn mark_parents(w: &[u16], m: &mut [u64], own: u64, j: usize) -> u64
+    requires { ⌜ Ledger (now w) × (j < bookings (now w)) × (length (now m) ≡ markWords) ⌝ }
+    ensures { λ r. ⌜ marksWith (now (m .exit)) (j / 64) r ≡ markParents (now (w .entry)) j (marksWith (now (m .entry)) (j / 64) own) ⌝ }
 {
+    let mut word = own;
     for a in 0..layout::MOST_PARENTS {
-        bits::mark_one(m, words::parent(w, j, a));
+        let p = words::parent(w, j, a);
+        if p / bits::WORD_BITS == j / bits::WORD_BITS {
+            word = bits::with_bit(word, p % bits::WORD_BITS);
+        } else {
+            // no booking's number: the place is unused, and so are those after it
+            if layout::MOST_BOOKINGS <= p {
+                return word;
+            }
+            bits::set_bit(m, p);
+        }
     }
+    word
 }
 
 // The same only if j is a member.
-fn spread_one(w: &[u16], m: &mut [u8], j: usize)
-    requires { ⌜ (length (now w) ≡ size) × (j < mostBookings) ⌝ }
-    ensures { λ _. ⌜ now (m .exit) ≡ spread (now (w .entry)) j (now (m .entry)) ⌝ }
+fn spread_one(w: &[u16], m: &mut [u64], own: u64, j: usize) -> u64
+    requires { ⌜ Ledger (now w) × (j < bookings (now w)) × (length (now m) ≡ markWords) ⌝ }
+    ensures { λ r. ⌜ marksWith (now (m .exit)) (j / 64) r ≡ spread (now (w .entry)) j (marksWith (now (m .entry)) (j / 64) own) ⌝ }
 {
-    if bits::is_member(m, j) {
-        mark_parents(w, m, j);
+    if bits::has_bit(own, j % bits::WORD_BITS) {
+        return mark_parents(w, m, own, j);
     }
+    own
 }
 
-// From n - 1 down to 0: parents are lower, so a member is met before its parents.
-fn sweep_down(w: &[u16], m: &mut [u8], n: usize)
-    requires { ⌜ (length (now w) ≡ size) × (n ≤ mostBookings) ⌝ }
-    ensures { λ _. ⌜ now (m .exit) ≡ sweep (now (w .entry)) n (now (m .entry)) ⌝ }
+// From n - 1 down to the first number of word q, which is then done: what is left to sweep is below.
+fn sweep_word(w: &[u16], m: &mut [u64], q: usize, n: usize)
+    requires { ⌜ Ledger (now w) × (n ≤ bookings (now w)) × (length (now m) ≡ markWords) × (64 * q < n) × (n ≤ 64 * q + 64) ⌝ }
+    ensures { λ _. ⌜ sweep (now (w .entry)) (64 * q) (marksIn (now (m .exit))) ≡ sweep (now (w .entry)) n (marksIn (now (m .entry))) ⌝ }
+{
+    let mut own = m[q];
+    let mut j = n;
+    while bits::WORD_BITS * q < j {
+        j -= 1;
+        own = spread_one(w, m, own, j);
+    }
+    m[q] = own;
+}
+
+// From n - 1 down to 0, a word at a time: parents are lower, so a member is met before its parents.
+fn sweep_down(w: &[u16], m: &mut [u64], n: usize)
+    requires { ⌜ Ledger (now w) × (n ≤ bookings (now w)) × (length (now m) ≡ markWords) ⌝ }
+    ensures { λ _. ⌜ marksIn (now (m .exit)) ≡ sweep (now (w .entry)) n (marksIn (now (m .entry))) ⌝ }
 {
     let mut j = n;
     while 0 < j {
-        j -= 1;
-        spread_one(w, m, j);
+        let q = (j - 1) / bits::WORD_BITS;
+        sweep_word(w, m, q, j);
+        j = bits::WORD_BITS * q;
     }
 }
 
 // Marks booking i's ancestry, where nothing was marked.
-pub fn mark_ancestry(w: &[u16], m: &mut [u8], i: usize)
-    requires { ⌜ (length (now w) ≡ size) × (i < mostBookings) × (now m ≡ unmarked) ⌝ }
-    ensures { λ _. ⌜ now (m .exit) ≡ ancestry (now (w .entry)) i ⌝ }
+pub fn mark_ancestry(w: &[u16], m: &mut [u64], i: usize)
+    requires { ⌜ Ledger (now w) × (i < bookings (now w)) × (now m ≡ noMarks) ⌝ }
+    ensures { λ _. ⌜ marksIn (now (m .exit)) ≡ ancestry (now (w .entry)) i ⌝ }
 {
-    bits::mark_one(m, i);
+    bits::set_bit(m, i);
     sweep_down(w, m, i + 1);
 }

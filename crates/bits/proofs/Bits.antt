@@ -82,3 +82,11 @@ bitAt-zeros k j h = rw (getD-replicate {A = ℕ} k (j / 64) 0 0 (omega arith), z
 pub bitAt-past : (m : List ℕ) (j : ℕ) → length m ≤ j / 64 → bitAt m j ≡ false
 unfolding bitAt
 bitAt-past m j h = rw (List·getD-eq-default m 0 {n = j / 64} h, zero-div (2 ^ (j % 64)))
+
+-- bit k of word q
+pub bitAt-place : (m : List ℕ) (q k : ℕ) → k < 64 → bitAt m (64 * q + k) ≡ eqb (bitIn (getD m q 0) k) 1
+unfolding bitAt
+bitAt-place m q k l =
+    let word : (64 * q + k) / 64 ≡ q = omega arith in
+    let place : (64 * q + k) % 64 ≡ k = omega arith in
+    rw (word, place)

@@ -5,10 +5,15 @@ use mathlib.Core.List.{List}
 use lib.Bits.{bitOr}
 use lib.Dec.{eqb}
 use lib.ListN.{getD, set}
+use Rattle.loops.specs.Total.{count}
 
 -- bit k of one word, 0 or 1
 abbrev pub bitIn : ℕ → ℕ → ℕ
 bitIn x k = x / 2 ^ k % 2
+
+-- how many of a word's bits are set
+abbrev pub onesIn : ℕ → ℕ
+onesIn x = count (λ k. eqb (bitIn x k) 1) 64
 
 -- bit j is set
 unfoldable pub bitAt : List ℕ → ℕ → Bool

@@ -1,2 +1,3 @@
--- Bits in a row of words.
+-- Bits in a row of words, and marks as such bits.
 pub mod Bits
+pub mod Marks

@@ -30,7 +30,7 @@ fn write_poll(w: &mut [u16], i: usize, votes: &[u8])
     ensures { λ _. ⌜ now (w .exit) ≡ polled (now (w .entry)) i (now (votes .entry)) ⌝ }
 {
     if is_success(w, votes) {
-        let mut marks = [0u8; layout::MOST_BOOKINGS];
+        let mut marks = [0u64; bits::MARK_WORDS];
         ancestry::mark_ancestry(w, &mut marks, i);
         writing::write_success(w, &marks, i);
     } else {

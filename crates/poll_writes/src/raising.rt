@@ -1,10 +1,12 @@
 // A poll is noted, and every member of the ancestry gains one confidence.
 use rules::layout;
 ghost use mathlib.Core.Path.{_≡_};
-ghost use Prim.Native.Nat.{_≤_, _<_};
+ghost use mathlib.Core.List.{List};
+ghost use Prim.Native.Nat.{ℕ, _≤_, _<_};
 ghost use lib.ListN.{length};
 ghost use Rattle.rules.specs.Layout.{size, mostBookings, polls, confidenceOf};
 ghost use Rattle.rules.specs.Poll.{noted, raiseOne, raised};
+ghost use Rattle.bits.specs.Marks.{markWords, marksIn, MarkIn};
 ghost use Rattle.poll_writes.specs.Raising.{Raising};
 
 // p rises and becomes the ordinal of booking i, whose state is as given.
@@ -18,23 +20,29 @@ pub fn note(w: &mut [u16], i: usize, state: u16)
     words::set_field(w, i, layout::ORDINAL, p);
 }
 
-// One confidence more for j if it is a member.
-fn raise_one(w: &mut [u16], marks: &[u8], j: usize)
-    requires { ⌜ (length (now w) ≡ size) × (length (now marks) ≡ mostBookings) × (j < mostBookings) × (confidenceOf (now w) j ≤ mostBookings) ⌝ }
-    ensures { λ _. ⌜ now (w .exit) ≡ raiseOne (now (marks .entry)) j (now (w .entry)) ⌝ }
+// One confidence more for j if it is a member, where word has its mark.
+fn raise_one(w: &mut [u16], word: u64, j: usize)
+    requires { ⌜ (length (now w) ≡ size) × (j < mostBookings) × (confidenceOf (now w) j ≤ mostBookings) ⌝ }
+    ensures { λ _. ⌜ ((m : List ℕ) → MarkIn word m j → now (w .exit) ≡ raiseOne m j (now (w .entry))) ⌝ }
 {
-    if marks[j] == 1 {
+    if bits::has_bit(word, j % bits::WORD_BITS) {
         let confidence = words::field(w, j, layout::CONFIDENCE);
         words::set_field(w, j, layout::CONFIDENCE, confidence + 1);
     }
 }
 
-// Each member below n, once: the marks know no paths.
-pub fn raise(w: &mut [u16], marks: &[u8], n: usize)
-    requires { ⌜ Raising (now w) n × (length (now marks) ≡ mostBookings) ⌝ }
-    ensures { λ _. ⌜ now (w .exit) ≡ raised (now (marks .entry)) n (now (w .entry)) ⌝ }
+// Each member below n, once: the marks know no paths. A word of marks is loaded once for its numbers.
+pub fn raise(w: &mut [u16], marks: &[u64], n: usize)
+    requires { ⌜ Raising (now w) n × (length (now marks) ≡ markWords) ⌝ }
+    ensures { λ _. ⌜ now (w .exit) ≡ raised (marksIn (now (marks .entry))) n (now (w .entry)) ⌝ }
 {
-    for j in 0..n {
-        raise_one(w, marks, j);
+    let mut j = 0;
+    while j < n {
+        let word = marks[j / bits::WORD_BITS];
+        let end = bits::word_end(j, n);
+        while j < end {
+            raise_one(w, word, j);
+            j += 1;
+        }
     }
 }

@@ -1,10 +1,12 @@
 // Each member is settled in its slot: first the preference, then the last booking and the counter.
 use rules::layout;
 ghost use mathlib.Core.Path.{_≡_};
-ghost use Prim.Native.Nat.{_<_};
+ghost use mathlib.Core.List.{List};
+ghost use Prim.Native.Nat.{ℕ, _<_};
 ghost use lib.ListN.{length};
 ghost use Rattle.rules.specs.Layout.{mostBookings, slotOf};
 ghost use Rattle.rules.specs.Poll.{prefer, follow, settleOne, settled};
+ghost use Rattle.bits.specs.Marks.{markWords, marksIn, MarkIn};
 ghost use Rattle.poll_writes.specs.Settling.{Settleable, Settling};
 
 // Strictly above the slot's preferred booking, or nothing moves: a tie keeps the preference.
@@ -35,24 +37,30 @@ fn follow_one(w: &mut [u16], s: usize, j: usize)
     }
 }
 
-// Both for j, in this order, if it is a member.
-fn settle_one(w: &mut [u16], marks: &[u8], j: usize)
-    requires { ⌜ Settleable (now w) (slotOf (now w) j) × (length (now marks) ≡ mostBookings) × (j < mostBookings) ⌝ }
-    ensures { λ _. ⌜ now (w .exit) ≡ settleOne (now (marks .entry)) j (now (w .entry)) ⌝ }
+// Both for j, in this order, if it is a member, where word has its mark.
+fn settle_one(w: &mut [u16], word: u64, j: usize)
+    requires { ⌜ Settleable (now w) (slotOf (now w) j) × (j < mostBookings) ⌝ }
+    ensures { λ _. ⌜ ((m : List ℕ) → MarkIn word m j → now (w .exit) ≡ settleOne m j (now (w .entry))) ⌝ }
 {
-    if marks[j] == 1 {
+    if bits::has_bit(word, j % bits::WORD_BITS) {
         let s = words::wide_field(w, j, layout::SLOT);
         prefer_one(w, s, j);
         follow_one(w, s, j);
     }
 }
 
-// Each member below n in rising number.
-pub fn settle(w: &mut [u16], marks: &[u8], n: usize)
-    requires { ⌜ Settling (now w) n × (length (now marks) ≡ mostBookings) ⌝ }
-    ensures { λ _. ⌜ now (w .exit) ≡ settled (now (marks .entry)) n (now (w .entry)) ⌝ }
+// Each member below n in rising number. A word of marks is loaded once for its numbers.
+pub fn settle(w: &mut [u16], marks: &[u64], n: usize)
+    requires { ⌜ Settling (now w) n × (length (now marks) ≡ markWords) ⌝ }
+    ensures { λ _. ⌜ now (w .exit) ≡ settled (marksIn (now (marks .entry))) n (now (w .entry)) ⌝ }
 {
-    for j in 0..n {
-        settle_one(w, marks, j);
+    let mut j = 0;
+    while j < n {
+        let word = marks[j / bits::WORD_BITS];
+        let end = bits::word_end(j, n);
+        while j < end {
+            settle_one(w, word, j);
+            j += 1;
+        }
     }
 }

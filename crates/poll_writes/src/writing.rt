@@ -5,9 +5,10 @@ use rules::layout;
 ghost use mathlib.Core.Path.{_≡_};
 ghost use Prim.Native.Nat.{_<_};
 ghost use lib.ListN.{length};
-ghost use Rattle.rules.specs.Layout.{mostBookings, bookings};
+ghost use Rattle.rules.specs.Layout.{bookings};
 ghost use Rattle.rules.specs.Sound.{Ledger};
 ghost use Rattle.rules.specs.Poll.{failed, succeededWith};
+ghost use Rattle.bits.specs.Marks.{markWords, marksIn};
 
 // The states that a poll writes, as terms::vote reads them.
 const FAILED: u16 = 1;
@@ -23,9 +24,9 @@ pub fn write_failure(w: &mut [u16], i: usize)
 }
 
 // The state becomes 2; every member of the marks is raised, and only then each is settled.
-pub fn write_success(w: &mut [u16], marks: &[u8], i: usize)
-    requires { ⌜ Ledger (now w) × (i < bookings (now w)) × (length (now marks) ≡ mostBookings) ⌝ }
-    ensures { λ _. ⌜ now (w .exit) ≡ succeededWith (now (marks .entry)) (now (w .entry)) i ⌝ }
+pub fn write_success(w: &mut [u16], marks: &[u64], i: usize)
+    requires { ⌜ Ledger (now w) × (i < bookings (now w)) × (length (now marks) ≡ markWords) ⌝ }
+    ensures { λ _. ⌜ now (w .exit) ≡ succeededWith (marksIn (now (marks .entry))) (now (w .entry)) i ⌝ }
 {
     let n = words::wide(words::header(w, layout::BOOKINGS));
     raising::note(w, i, CHIT);

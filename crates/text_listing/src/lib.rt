@@ -8,6 +8,7 @@ ghost use Rattle.loops.specs.Total.{bit};
 ghost use Rattle.rules.specs.Layout.{bookings};
 ghost use Rattle.rules.specs.Readings.{acceptedBelow};
 ghost use Rattle.rules.specs.Sound.{Ledger};
+ghost use Rattle.bits.specs.Marks.{marksIn};
 ghost use Rattle.put.specs.Put.{Put};
 ghost use Rattle.text_print.specs.Columns.{rowPrints};
 ghost use Rattle.text_listing.specs.Listed.{listRow, rowsPrint, listPrints, rowMost, lineMost};
@@ -23,15 +24,15 @@ fn flag(b: bool) -> u64
 }
 
 // Number, slot, state, confidence, preferred, accepted. The accepted bookings are marked.
-fn row_of(w: &[u16], accepted: &[u8], i: usize) -> [u64; 6]
-    requires { ⌜ Ledger (now w) × (i < bookings (now w)) × (now accepted ≡ acceptedBelow (now w) (bookings (now w))) ⌝ }
+fn row_of(w: &[u16], accepted: &[u64], i: usize) -> [u64; 6]
+    requires { ⌜ Ledger (now w) × (i < bookings (now w)) × (marksIn (now accepted) ≡ acceptedBelow (now w) (bookings (now w))) ⌝ }
     ensures { λ r. ⌜ r ≡ listRow (now (w .entry)) i ⌝ }
 {
     let slot = booking::slot_of(w, i);
     let state = words::wide_field(w, i, layout::STATE);
     let confidence = words::wide(booking::confidence_of(w, i));
     let preferred = flag(preference::is_preferred(w, i));
-    let is_accepted = flag(bits::is_member(accepted, i));
+    let is_accepted = flag(bits::is_set(accepted, i));
     [
         i as u64,
         slot as u64,
@@ -43,8 +44,8 @@ fn row_of(w: &[u16], accepted: &[u8], i: usize) -> [u64; 6]
 }
 
 // The row of booking i.
-fn put_one(w: &[u16], accepted: &[u8], i: usize, out: &mut [u8], at: usize) -> usize
-    requires { ⌜ Ledger (now w) × (i < bookings (now w)) × (now accepted ≡ acceptedBelow (now w) (bookings (now w))) × (at + rowMost ≤ length (now out)) ⌝ }
+fn put_one(w: &[u16], accepted: &[u64], i: usize, out: &mut [u8], at: usize) -> usize
+    requires { ⌜ Ledger (now w) × (i < bookings (now w)) × (marksIn (now accepted) ≡ acceptedBelow (now w) (bookings (now w))) × (at + rowMost ≤ length (now out)) ⌝ }
     ensures { λ r. ⌜ Put (now (out .entry)) at (rowPrints (listRow (now (w .entry)) i)) r (now (out .exit)) ⌝ }
 {
     let row = row_of(w, accepted, i);
@@ -52,8 +53,8 @@ fn put_one(w: &[u16], accepted: &[u8], i: usize, out: &mut [u8], at: usize) -> u
 }
 
 // The rows of all bookings in rising number.
-fn put_rows(w: &[u16], accepted: &[u8], out: &mut [u8], at: usize) -> usize
-    requires { ⌜ Ledger (now w) × (now accepted ≡ acceptedBelow (now w) (bookings (now w))) × (at + rowMost * bookings (now w) ≤ length (now out)) ⌝ }
+fn put_rows(w: &[u16], accepted: &[u64], out: &mut [u8], at: usize) -> usize
+    requires { ⌜ Ledger (now w) × (marksIn (now accepted) ≡ acceptedBelow (now w) (bookings (now w))) × (at + rowMost * bookings (now w) ≤ length (now out)) ⌝ }
     ensures { λ r. ⌜ Put (now (out .entry)) at (rowsPrint (now (w .entry)) (bookings (now (w .entry)))) r (now (out .exit)) ⌝ }
 {
     let n = booking::how_many(w);

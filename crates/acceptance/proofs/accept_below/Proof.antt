@@ -7,11 +7,12 @@ use borrow.Author.Needs.{needs}
 use Rattle.loops.specs.Turns.{upTo}
 use Rattle.loops.proofs.Turns.{upTo-zero, upTo-more}
 use Rattle.rules.specs.Readings.{acceptOne}
+use Rattle.bits.specs.Marks.{marksIn}
 use Rattle.acceptance.proofs.accept_below.Statement.{statement}
 use Rattle.acceptance.proofs.accept_below.Tie as tie
 
 abbrev Inv-loop : tie.InvT-loop
-Inv-loop w m₀ n j₀ m j = (j ≤ n) × (length m ≡ length m₀) × (m ≡ upTo (acceptOne w) j m₀)
+Inv-loop w m₀ n j₀ m j = (j ≤ n) × (length m ≡ length m₀) × (marksIn m ≡ upTo (acceptOne w) j (marksIn m₀))
 
 abbrev μ-loop : tie.MeasureT-loop
 μ-loop w m₀ n j₀ m j = n - j

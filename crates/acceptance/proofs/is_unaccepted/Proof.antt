@@ -1,5 +1,7 @@
 -- The tests of the definition, at the parent that the call ensures.
+use mathlib.Core.Path.{sym, _∙_}
 use borrow.Author.Needs.{needs}
+use Rattle.bits.proofs.Marks.{member-bit}
 use Rattle.acceptance.proofs.is_unaccepted.Statement.{statement}
 use Rattle.acceptance.proofs.is_unaccepted.Tie as tie
 
@@ -9,11 +11,14 @@ parent-requires c κs = search needs
 wide-requires : tie.Need-wide-requires
 wide-requires c κs = search needs
 
-is-member-requires : tie.Need-is-member-requires
-is-member-requires c κs = search needs
+is-set-requires : tie.Need-is-set-requires
+is-set-requires c κs = search needs
 
 returns : tie.Need-returns
-returns c = rw (c .is-member .ensures, c .before .wide .ensures .0, c .before .before .parent .ensures)
+returns c =
+    let start = c .before .before .before .before .before in
+    let asked = c .is-set .ensures ∙ sym (member-bit (start .args .m .now) (c .before .before .parent .result)) in
+    rw (asked, c .before .wide .ensures .0, c .before .before .parent .ensures)
 
 pub is-unaccepted-spec : {M : Type 1} → statement M
-is-unaccepted-spec = tie.close (tie.spec parent-requires wide-requires is-member-requires returns)
+is-unaccepted-spec = tie.close (tie.spec parent-requires wide-requires is-set-requires returns)

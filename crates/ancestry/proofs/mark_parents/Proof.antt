@@ -1,6 +1,7 @@
--- The marks are those after the places below a.
-use Prim.Native.Nat.{_≤_, _-_}
-use mathlib.Core.Path.{_≡_, sym}
+-- The marks are those after the places below a: a parent of j's own word is a bit of the word apart, any other a bit of the row.
+use Prim.Native.Nat.{_≤_, _-_, _/_}
+use mathlib.Core.Path.{_≡_, sym, ap, ap₂, _∙_}
+use mathlib.Core.Logic.{⊎-elim}
 use native.Mathlib.Omega.{arith}
 use lib.ListN.{length}
 use borrow.Author.Needs.{needs}
@@ -8,23 +9,44 @@ use Rattle.loops.specs.Turns.{upTo}
 use Rattle.loops.proofs.Turns.{upTo-zero, upTo-more}
 use Rattle.rules.specs.Layout.{mostParents, parentOf}
 use Rattle.rules.specs.Ancestry.{mark}
+use Rattle.bits.specs.Marks.{markWords, marksWith}
+use Rattle.bits.proofs.Marks.{length-marksWith, mark-own, mark-other}
+use Rattle.ancestry.proofs.UnusedPlaces.{parents-done}
 use Rattle.ancestry.proofs.mark_parents.Statement.{statement}
 use Rattle.ancestry.proofs.mark_parents.Tie as tie
 
 abbrev Inv-loop : tie.InvT-loop
-Inv-loop w m₀ j a₀ m a = (a ≤ mostParents) × (length m ≡ length m₀) × (m ≡ upTo (λ b. mark (parentOf w j b)) a m₀)
+Inv-loop w m₀ own j word₀ a₀ m word a =
+    (a ≤ mostParents) × (length m ≡ markWords) × (marksWith m (j / 64) word ≡ upTo (λ b. mark (parentOf w j b)) a (marksWith m₀ (j / 64) own))
 
 abbrev μ-loop : tie.MeasureT-loop
-μ-loop w m₀ j a₀ m a = mostParents - a
+μ-loop w m₀ own j word₀ a₀ m word a = mostParents - a
 
 loop-holds : tie.Need-loop-holds Inv-loop μ-loop
 loop-holds c = (search needs, search needs, sym (upTo-zero _ _))
 
 parent-requires : tie.Need-parent-requires Inv-loop μ-loop
-parent-requires c κs = omega arith
+parent-requires c κs =
+    let S = c .before .before .before .before in
+    (S .pre .0 .whole, omega (arith, S .pre .0 .sound .bookingsMost), omega arith)
 
-mark-one-requires : tie.Need-mark-one-requires Inv-loop μ-loop
-mark-one-requires c κs = search needs
+with-bit-requires : tie.Need-with-bit-requires Inv-loop μ-loop
+with-bit-requires c κs = omega arith
+
+same-length : tie.Need-same-length Inv-loop μ-loop
+same-length c = omega arith
+
+no-more : tie.Need-returns Inv-loop μ-loop
+no-more c =
+    let S = c .before .before .before .before .before .before .before in
+    let turn = c .before .before .before .before .loop in
+    let w = S .args .w .now in
+    turn .inv .2
+    ∙ sym (parents-done w (S .pre .0 .sound) (S .args .j) (turn .a) (marksWith (S .args .m .now) (S .args .j / 64) (S .args .own)) (S .pre .1) (omega arith) (omega (arith, c .before .before .parent .ensures))
+    (ap length (sym (turn .inv .2)) ∙ length-marksWith (turn .m) (S .args .j / 64) (turn .word) ∙ omega arith))
+
+set-bit-requires : tie.Need-set-bit-requires Inv-loop μ-loop
+set-bit-requires c κs = search needs
 
 add-a : tie.Need-add-a Inv-loop μ-loop
 add-a c = omega arith
@@ -34,16 +56,30 @@ loop-less c = omega arith
 
 loop-again : tie.Need-loop-again Inv-loop μ-loop
 loop-again c =
-    let marked = c .before .before .mark-one in
-    let parent = c .before .before .before .parent in
-    let turn = c .before .before .before .before .before .before .loop in
-    (omega arith, omega (arith, marked .kept .0), rw (upTo-more, ← turn .inv .2) (rw (parent .ensures) at (marked .ensures)))
+    let S = c .before .before .before .before .before .before in
+    let turn = c .before .before .before .loop in
+    let parent = c .before .parent in
+    let q = S .args .j / 64 in
+    let after = ap₂ mark (parent .ensures) (turn .inv .2) ∙ sym (upTo-more _ (turn .a) _) in
+    ⊎-elim
+    (λ v. (
+      omega arith,
+      omega (arith, ap length (v .2)),
+      ap₂ (λ x y. marksWith x q y) (v .2) (v .3 ∙ v .1 .ensures)
+          ∙ mark-own (turn .m) q (turn .word) (parent .result) (omega (arith, S .pre .0 .sound .bookingsMost)) (v .0 .taken) ∙ after,
+    ))
+    (λ v. (
+      omega arith,
+      omega (arith, ap length (v .6), v .3 .kept .0),
+      ap₂ (λ x y. marksWith x q y) (v .6 ∙ v .3 .ensures) (v .7) ∙ mark-other (turn .m) q (turn .word) (parent .result) (v .0 .left) ∙ after,
+    ))
+    (c .if1 .came)
 
-same-length : tie.Need-same-length Inv-loop μ-loop
-same-length c = omega arith
+same-length-2 : tie.Need-same-length-2 Inv-loop μ-loop
+same-length-2 c = omega arith
 
-returns : tie.Need-returns Inv-loop μ-loop
-returns c = let over : c .before .loop .a ≡ mostParents = omega arith in rw (← over) (c .before .loop .inv .2)
+all-places : tie.Need-returns-2 Inv-loop μ-loop
+all-places c = let over : c .before .loop .a ≡ mostParents = omega arith in rw (over) at (c .before .loop .inv .2)
 
 pub mark-parents-spec : {M : Type 1} → statement M
 mark-parents-spec =
@@ -53,9 +89,12 @@ mark-parents-spec =
     μ-loop
     loop-holds
     parent-requires
-    mark-one-requires
+    with-bit-requires
+    same-length
+    no-more
+    set-bit-requires
     add-a
     loop-less
     loop-again
-    same-length
-    returns)
+    same-length-2
+    all-places)

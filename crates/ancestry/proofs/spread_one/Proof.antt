@@ -1,12 +1,15 @@
--- The branch is the definition's own: a member marks its parents, any other nothing.
-use mathlib.Core.Path.{sym, _∙_}
+-- The branch is the definition's own: a member marks its parents, any other nothing. The mark of j is a bit of the word apart.
+use Prim.Native.Nat.{_/_}
+use mathlib.Core.Path.{refl, sym, _∙_}
+use native.Mathlib.Omega.{arith}
 use borrow.Author.Needs.{needs}
 use Rattle.rules.specs.Ancestry.{spread}
+use Rattle.bits.proofs.Marks.{member-own}
 use Rattle.ancestry.proofs.spread_one.Statement.{statement}
 use Rattle.ancestry.proofs.spread_one.Tie as tie
 
-is-member-requires : tie.Need-is-member-requires
-is-member-requires c κs = search needs
+has-bit-requires : tie.Need-has-bit-requires
+has-bit-requires c κs = search needs
 
 mark-parents-requires : tie.Need-mark-parents-requires
 mark-parents-requires c κs = search needs
@@ -17,15 +20,18 @@ same-length c = search needs
 member : tie.Need-returns
 unfolding spread
 member c =
-    let test = c .before .before .before .before in
-    rw (sym (test .before .is-member .ensures) ∙ test .if1 .taken) (c .before .before .mark-parents .ensures)
-
-same-length-2 : tie.Need-same-length-2
-same-length-2 c = search needs
+    let T = c .before .before .before .before in
+    let S = T .before .before .before .before in
+    let marked = member-own (S .args .m .now) (S .args .j / 64) (S .args .own) (S .args .j) (omega (arith, S .pre .0 .sound .bookingsMost)) refl in
+    rw (marked ∙ sym (T .before .has-bit .ensures) ∙ T .if1 .taken) (c .before .before .mark-parents .ensures)
 
 other : tie.Need-returns-2
 unfolding spread
-other c = rw (sym (c .before .is-member .ensures) ∙ c .if1 .left)
+other c =
+    let S = c .before .before .before .before in
+    let marked = member-own (S .args .m .now) (S .args .j / 64) (S .args .own) (S .args .j) (omega (arith, S .pre .0 .sound .bookingsMost)) refl in
+    rw (marked ∙ sym (c .before .has-bit .ensures) ∙ c .if1 .left)
 
 pub spread-one-spec : {M : Type 1} → statement M
-spread-one-spec = tie.close (tie.spec is-member-requires mark-parents-requires same-length member same-length-2 other)
+spread-one-spec =
+    tie.close (tie.spec has-bit-requires mark-parents-requires same-length member other)

@@ -1,4 +1,4 @@
--- Past the last word `getD` gives 0, which has no bit set.
+-- The bit is one of its word. Past the last word `getD` gives 0, which has no bit set.
 use mathlib.Core.Path.{sym}
 use native.Mathlib.Omega.{arith}
 use borrow.Author.Needs.{needs}
@@ -7,21 +7,22 @@ use Rattle.bits.proofs.Bits.{bitAt-past}
 use Rattle.bits.proofs.is_set.Statement.{statement}
 use Rattle.bits.proofs.is_set.Tie as tie
 
-mul-result : tie.Need-mul-result
-mul-result c = search needs
+mul-has-bit : tie.Need-mul-has-bit
+mul-has-bit c = search needs
 
-shared-slice-read-result : tie.Need-shared-slice-read-result
-shared-slice-read-result c = search needs
+shared-slice-read-has-bit : tie.Need-shared-slice-read-has-bit
+shared-slice-read-has-bit c = search needs
 
-shr-result : tie.Need-shr-result
-shr-result c = search needs
+has-bit-requires : tie.Need-has-bit-requires
+has-bit-requires c κs = search needs
 
-returns : tie.Need-returns
+within : tie.Need-returns
 unfolding bitAt
-returns c = search needs
+within c = c .has-bit .ensures
 
 past : tie.Need-returns-2
-past c = sym (bitAt-past (c .before .args .bits .now) (c .before .args .j) (omega arith))
+past c = sym (bitAt-past (c .before .before .args .bits .now) (c .before .before .args .j) (omega arith))
 
 pub is-set-spec : {M : Type 1} → statement M
-is-set-spec = tie.close (tie.spec mul-result shared-slice-read-result shr-result returns past)
+is-set-spec =
+    tie.close (tie.spec mul-has-bit shared-slice-read-has-bit has-bit-requires within past)

@@ -2,6 +2,7 @@
 use borrow.Author.Needs.{needs}
 use Rattle.rules.specs.Layout.{bookings}
 use Rattle.rule_laws.proofs.Accepted.{acceptedBelow-is}
+use Rattle.bits.proofs.Marks.{member-bit}
 use Rattle.text_listing.specs.Listed.{listRow}
 use Rattle.text_listing.proofs.row_of.Statement.{statement}
 use Rattle.text_listing.proofs.row_of.Tie as tie
@@ -24,8 +25,8 @@ is-preferred-requires c κs = search needs
 flag-requires : tie.Need-flag-requires
 flag-requires c κs = search needs
 
-is-member-requires : tie.Need-is-member-requires
-is-member-requires c κs = search needs
+is-set-requires : tie.Need-is-set-requires
+is-set-requires c κs = search needs
 
 flag-requires-2 : tie.Need-flag-requires-2
 flag-requires-2 c κs = search needs
@@ -40,7 +41,8 @@ returns c =
     let w = S .args .w .now in
     rw (
       c .flag2 .ensures,
-      c .before .is-member .ensures,
+      c .before .is-set .ensures,
+      ← member-bit (S .args .accepted .now) (S .args .i),
       S .pre .2,
       acceptedBelow-is w (bookings w) (S .args .i) (S .pre .1),
       c .before .before .flag .ensures,
@@ -61,6 +63,6 @@ row-of-spec =
     wide-requires
     is-preferred-requires
     flag-requires
-    is-member-requires
+    is-set-requires
     flag-requires-2
     returns)

@@ -1,6 +1,11 @@
--- The members among the bookings are counted: the definition, at the marks and the number that the two calls ensure.
+-- The bits that are set are the members, and all of these are bookings.
+use mathlib.Core.Path.{ap, _∙_}
 use borrow.Author.Needs.{needs}
-use Rattle.rules.specs.Readings.{sizeOf}
+use Rattle.loops.specs.Total.{count}
+use Rattle.rules.specs.Layout.{mostBookings}
+use Rattle.rules.specs.Ancestry.{isMember}
+use Rattle.bits.proofs.Marks.{count-members}
+use Rattle.booking_reads.proofs.Members.{members-counted}
 use Rattle.booking_reads.proofs.size.size_of.Statement.{statement}
 use Rattle.booking_reads.proofs.size.size_of.Tie as tie
 
@@ -10,18 +15,18 @@ slice-aggregate-mark-ancestry c = search needs
 mark-ancestry-requires : tie.Need-mark-ancestry-requires
 mark-ancestry-requires c κs = search needs
 
-slice-aggregate-marked-below : tie.Need-slice-aggregate-marked-below
-slice-aggregate-marked-below c = search needs
+slice-aggregate-count-set : tie.Need-slice-aggregate-count-set
+slice-aggregate-count-set c = search needs
 
-how-many-requires : tie.Need-how-many-requires
-how-many-requires c κs = search needs
-
-marked-below-requires : tie.Need-marked-below-requires
-marked-below-requires c κs = search needs
+count-set-requires : tie.Need-count-set-requires
+count-set-requires c κs = search needs
 
 returns : tie.Need-returns
-unfolding sizeOf
-returns c = rw (c .before .how-many .ensures, c .before .before .before .before .mark-ancestry .ensures) at (c .marked-below .ensures)
+returns c =
+    let S = c .before .before .before .before .before .before in
+    c .count-set .ensures ∙ count-members _ mostBookings
+    ∙ ap (λ m. count (isMember m) mostBookings) (c .before .before .before .mark-ancestry .ensures)
+    ∙ members-counted (S .args .w .now) (S .pre .0 .sound) (S .args .i) (S .pre .1)
 
 pub size-of-spec : {M : Type 1} → statement M
 size-of-spec =
@@ -29,7 +34,6 @@ size-of-spec =
     (tie.spec
     slice-aggregate-mark-ancestry
     mark-ancestry-requires
-    slice-aggregate-marked-below
-    how-many-requires
-    marked-below-requires
+    slice-aggregate-count-set
+    count-set-requires
     returns)

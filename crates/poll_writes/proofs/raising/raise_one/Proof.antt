@@ -1,12 +1,12 @@
--- A mark of 1 is a member, whose confidence is stored one higher; any other mark stores nothing.
-use borrow.Author.Tests.{eq-eqb, ne-eqb}
+-- A bit that is set is a member, whose confidence is stored one higher; one that is not stores nothing.
+use mathlib.Core.Path.{sym, _∙_}
 use borrow.Author.Needs.{needs}
 use Rattle.rules.specs.Poll.{raiseOne}
 use Rattle.poll_writes.proofs.raising.raise_one.Statement.{statement}
 use Rattle.poll_writes.proofs.raising.raise_one.Tie as tie
 
-shared-slice-read-if1 : tie.Need-shared-slice-read-if1
-shared-slice-read-if1 c = search needs
+has-bit-requires : tie.Need-has-bit-requires
+has-bit-requires c κs = search needs
 
 field-requires : tie.Need-field-requires
 field-requires c κs = search needs
@@ -22,19 +22,20 @@ same-length c = search needs
 
 member : tie.Need-returns
 unfolding raiseOne
-member c =
+member c m e =
     let G = c .before .before .before .before in
-    simp (c .before .before .set-field .ensures, G .field .ensures, eq-eqb _ _ (G .before .before .if1 .taken))
+    let I = G .before .before in
+    simp (c .before .before .set-field .ensures, G .field .ensures, e ∙ sym (I .before .has-bit .ensures) ∙ I .if1 .taken)
 
 no-member : tie.Need-returns-2
 unfolding raiseOne
-no-member c = simp (ne-eqb _ _ (c .if1 .left))
+no-member c m e = simp (e ∙ sym (c .before .has-bit .ensures) ∙ c .if1 .left)
 
 pub raise-one-spec : {M : Type 1} → statement M
 raise-one-spec =
     tie.close
     (tie.spec
-    shared-slice-read-if1
+    has-bit-requires
     field-requires
     add-set-field
     set-field-requires

@@ -1,6 +1,7 @@
 -- A ledger has what raising and settling lean on, and noting and raising move neither slots nor entries.
 use native.Mathlib.Omega.{arith}
 use borrow.Author.Needs.{needs}
+use Rattle.bits.specs.Marks.{marksIn}
 use Rattle.poll_writes.proofs.Ledgers.{Ledger→Raising, Ledger→Settling, noted-raising, raised-noted-settling}
 use Rattle.poll_writes.proofs.writing.write_success.Statement.{statement}
 use Rattle.poll_writes.proofs.writing.write_success.Tie as tie
@@ -18,7 +19,7 @@ raise-requires : tie.Need-raise-requires
 raise-requires c κs =
     let N = c .before .before .before in
     let S = N .before .before .before .before .before .before .before in
-    (rw (N .note .ensures, N .before .before .wide .ensures .0, N .before .before .before .header .ensures) (noted-raising (S .args .w .now) (S .args .i) _ _ (Ledger→Raising (S .pre .0))), search needs)
+    (rw (N .note .ensures, N .before .before .wide .ensures .0, N .before .before .before .header .ensures) (noted-raising (S .args .w .now) (S .args .i) _ _ (Ledger→Raising (S .pre .0))), S .pre .2)
 
 settle-requires : tie.Need-settle-requires
 settle-requires c κs =
@@ -26,8 +27,8 @@ settle-requires c κs =
     let N = R .before .before .before .before in
     let S = N .before .before .before .before .before .before .before in (
       rw (R .raise .ensures, N .note .ensures, N .before .before .wide .ensures .0, N .before .before .before .header .ensures)
-          (raised-noted-settling (S .args .w .now) (S .args .i) _ (S .args .marks .now) _ (omega (arith, S .pre .0 .sound .bookingsMost)) (Ledger→Settling (S .pre .0))),
-      search needs,
+          (raised-noted-settling (S .args .w .now) (S .args .i) _ (marksIn (S .args .marks .now)) _ (omega (arith, S .pre .0 .sound .bookingsMost)) (Ledger→Settling (S .pre .0))),
+      S .pre .2,
     )
 
 same-length : tie.Need-same-length

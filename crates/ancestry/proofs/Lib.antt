@@ -1,0 +1,2 @@
+-- A law that the proofs of this crate cite. It assumes nothing.
+pub mod UnusedPlaces

@@ -1,0 +1,30 @@
+-- The marks of the law as bits: bit j is the mark of j. Eight words have one for each booking.
+use Prim.Native.Nat.{ℕ, _*_, _%_}
+use mathlib.Core.Path.{_≡_}
+use mathlib.Core.List.{List}
+use lib.Dec.{eqb}
+use lib.ListN.{length, set, replicate}
+use Rattle.loops.specs.Fill.{from}
+use Rattle.loops.specs.Total.{bit}
+use Rattle.rules.specs.Ancestry.{isMember}
+use Rattle.bits.specs.Bits.{bitIn, bitAt}
+
+-- words of 64 bits, one bit for each number that a booking, or an ordinal, may have
+abbrev pub markWords : ℕ
+markWords = 8
+
+-- the marks that a row of words holds: 1 where the bit is set, 0 where it is not
+unfoldable pub marksIn : List ℕ → List ℕ
+marksIn m = from (λ j. bit (bitAt m j)) 0 (64 * length m)
+
+-- the same where x stands for word q
+abbrev pub marksWith : List ℕ → ℕ → ℕ → List ℕ
+marksWith m q x = marksIn (set m q x)
+
+-- the mark of j is its bit of the word x
+abbrev pub MarkIn : ℕ → List ℕ → ℕ → Type 0
+MarkIn x m j = isMember m j ≡ eqb (bitIn x (j % 64)) 1
+
+-- eight words with no bit set
+abbrev pub noMarks : List ℕ
+noMarks = replicate markWords 0
