@@ -1,30 +1,37 @@
--- The marks say which ordinals the records so far hold.
-use mathlib.Core.Path.{_≡_, refl, _∙_}
+-- The marks say which ordinals the records so far hold, and their number whether one is missing.
+use mathlib.Core.Path.{_≡_, refl, ap, _∙_}
 use mathlib.Core.Bool.{Bool, true, false, cond, not, _&&_, _||_, and-eq-true-iff}
 use mathlib.Core.List.{List}
-use Prim.Native.Nat.{ℕ, zero, suc, _+_, _<_}
+use Prim.Native.Nat.{ℕ, zero, suc, _+_, _*_, _-_, _<_, _≤_}
 use native.Mathlib.Numerals.{add-one}
 use native.Mathlib.Omega.{arith}
-use lib.Dec.{eqb, leb, ltb}
-use lib.ListN.{length, replicate, length-replicate}
-use borrow.Author.Tests.{leb-true}
+use lib.Dec.{eqb, eqb·suc-suc, leb, ltb}
+use lib.ListN.{length, length-replicate}
+use borrow.Author.Tests.{leb-true, eq-eqb, ne-eqb}
 use Rattle.bits.specs.Bits.{bitAt, withBit}
+use Rattle.bits.specs.Marks.{markWords, noMarks}
 use Rattle.bits.proofs.Bits.{withBit-length, bitAt-withBit, bitAt-zeros}
 use Rattle.loops.specs.Search.{any, all}
+use Rattle.loops.specs.Total.{bit, count}
+use Rattle.loops.proofs.Search.{→any, →none}
+use Rattle.loops.proofs.Total.{total-same, total-split, total-cut, total-more, total-zero, count-all}
 use Rattle.loops.proofs.Turns.{upTo-zero, upTo-more, upTo-kept}
 use Rattle.rules.specs.Layout.{mostBookings, slots, bookings, polls, slotOf, stateOf, ordinalOf}
 use Rattle.rules.specs.IsSound.{nameNew, parentsGood, stateGood, bookingGood, ordinalsHeld}
+use Rattle.rules.specs.RowRules.{RulesBelow}
+use Rattle.rule_laws.proofs.RowRules.{recordRow→Rules}
 use Rattle.sound_rows.proofs.Few.{any-none}
-use Rattle.sound.specs.Ordinals.{markWords, ordinalsBelow}
+use Rattle.sound.specs.Ordinals.{ordinalsBelow, MarkedTo}
 use Rattle.sound.proofs.Searches.{any-suc, all-same}
+use Rattle.sound.proofs.RecordRows.{lowestBelow, good-before}
 
 pub ordinalsBelow-length : (w : List ℕ) (i : ℕ) → length (ordinalsBelow w i) ≡ markWords
 unfolding ordinalsBelow
 ordinalsBelow-length w i =
-    upTo-kept (λ j. withBit (ordinalOf w j)) (λ m. length m ≡ markWords) i (λ j l m e. withBit-length (ordinalOf w j) m ∙ e) (replicate markWords 0) (length-replicate {A = ℕ} markWords 0)
+    upTo-kept (λ j. withBit (ordinalOf w j)) (λ m. length m ≡ markWords) i (λ j l m e. withBit-length (ordinalOf w j) m ∙ e) noMarks (length-replicate {A = ℕ} markWords 0)
 
 -- the turns of the loop that marks
-pub ordinalsBelow-zero : (w : List ℕ) → ordinalsBelow w 0 ≡ replicate markWords 0
+pub ordinalsBelow-zero : (w : List ℕ) → ordinalsBelow w 0 ≡ noMarks
 unfolding ordinalsBelow
 ordinalsBelow-zero w = upTo-zero _ _
 
@@ -58,8 +65,51 @@ unfolding bookingGood
 bookingGood-marked w i h =
     judged (nameNew w i && leb 1 (slotOf w i) && ltb (slotOf w i) slots && parentsGood w i) (stateGood w i) _ _ (λ e. rw (bitAt-ordinalsBelow w i (ordinalOf w i) (ordinal-lt w i h e)))
 
--- the marks that a whole pass leaves say whether every ordinal is held
-pub marked-held : (w marks : List ℕ) (p i : ℕ) → polls w < mostBookings → p ≡ polls w → marks ≡ ordinalsBelow w i → i ≡ bookings w
-    → all (λ o. bitAt marks (o + 1)) p ≡ ordinalsHeld w
-marked-held w marks p i h polled marked reached =
-    rw (polled, marked, reached) (all-same _ _ (polls w) (λ o l. bitAt-ordinalsBelow w (bookings w) (o + 1) (omega arith)))
+-- ---- a pass over all records
+
+module _ (w marks : List ℕ) (p i : ℕ) (h : polls w < bookings w) (fits : bookings w ≤ mostBookings) (polled : p ≡ polls w) (marked : marks ≡ ordinalsBelow w i) (reached : i ≡ bookings w) where
+  -- the marks that it leaves say whether every ordinal is held
+  pub marked-held : all (λ o. bitAt marks (o + 1)) p ≡ ordinalsHeld w
+  marked-held =
+      rw (polled, marked, reached) (all-same _ _ (polls w) (λ o l. bitAt-ordinalsBelow w (bookings w) (o + 1) (omega arith)))
+
+  -- where no record breaks a rule they are 0 and none above p
+  pub marked-to : lowestBelow w ≡ bookings w → MarkedTo p marks
+  marked-to none-bad =
+      rw (polled, marked, reached)
+      (record {
+        whole = ordinalsBelow-length w (bookings w);
+        within = omega arith;
+        genesis =
+            bitAt-ordinalsBelow w (bookings w) 0 (omega arith)
+            ∙ →any (λ j. eqb (ordinalOf w j) 0) (bookings w) 0 (omega arith) (eq-eqb (ordinalOf w 0) 0 (rules 0 (omega arith) .genesis refl .ordinal));
+        noneAbove = λ o l u.
+            bitAt-ordinalsBelow w (bookings w) o u
+            ∙ →none (λ j. eqb (ordinalOf w j) o) (bookings w) (λ j v. ne-eqb (ordinalOf w j) o (λ e. omega (arith, rules j v .ordinalMost)));
+      })
+    where
+      rules : (j : ℕ) → j < bookings w → RulesBelow w j
+      rules j u = recordRow→Rules w j (good-before w fits none-bad j u) .below u
+
+-- ---- the number of marks
+
+-- that of 0, and those of 1 to p
+marks-count : (p : ℕ) (marks : List ℕ) → MarkedTo p marks → count (bitAt marks) (64 * markWords) ≡ suc (count (λ o. bitAt marks (o + 1)) p)
+marks-count p marks m =
+    let f : ℕ → ℕ = λ o. bit (bitAt marks o) in
+    let e : 64 * markWords ≡ 1 + p + (mostBookings - (1 + p)) = omega (arith, m .within) in
+    ap (count (bitAt marks)) e
+    ∙ total-cut f (1 + p) (mostBookings - (1 + p)) (λ o l u. ap bit (m .noneAbove o (omega arith) (omega (arith, m .within))))
+    ∙ omega (
+      arith,
+      total-split f 1 p,
+      total-more f 0,
+      total-zero f,
+      ap bit (m .genesis),
+      total-same (λ o. f (1 + o)) (λ o. f (o + 1)) p (λ o l. ap f (omega arith)),
+    )
+
+-- so p + 1 exactly if each of 1 to p is marked
+pub marks-count-all : (p : ℕ) (marks : List ℕ) → MarkedTo p marks → eqb (count (bitAt marks) (64 * markWords)) (p + 1) ≡ all (λ o. bitAt marks (o + 1)) p
+marks-count-all p marks m =
+    rw (marks-count p marks m, add-one p, eqb·suc-suc (count (λ o. bitAt marks (o + 1)) p) p) (count-all (λ o. bitAt marks (o + 1)) p)

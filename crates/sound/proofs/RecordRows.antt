@@ -36,7 +36,7 @@ module _ (w : List ℕ) (fits : bookings w ≤ mostBookings) where
       (λ j l. ap not (kept-before j l))
 
   module _ (all-good : lowestBelow w ≡ bookings w) where
-    good-before : (j : ℕ) → j < bookings w → recordRow w j ≡ true
+    pub good-before : (j : ℕ) → j < bookings w → recordRow w j ≡ true
     good-before j u = kept-before j (omega arith)
 
     -- row n, where every ordinal is held or not

@@ -1,4 +1,4 @@
--- What a search that ran to its end says, a search over one number more, and one that starts where everything before fails.
+-- A search over one number more, one that starts where everything before fails, and tests that agree.
 use mathlib.Core.Path.{_≡_, refl, ap, _∙_}
 use mathlib.Core.Bool.{Bool, true, false, not, _||_}
 use mathlib.Core.Logic.{⊎-elim}
@@ -7,13 +7,8 @@ use native.Mathlib.Numerals.{add-one}
 use native.Mathlib.Nat.{eq-or-lt-of-le, le-of-suc-le-suc}
 use native.Mathlib.Omega.{arith}
 use lib.Dec.{eqb}
-use borrow.Author.Tests.{eq-eqb}
 use Rattle.loops.specs.Search.{any, all}
-use Rattle.loops.proofs.Search.{Searched, search-start, search-miss, search-over, firstFrom-same, any→, →any, none→, →none}
-
-module _ (p : ℕ → Bool) (n i : ℕ) where
-  pub search-all : Searched (λ j. not (p j)) n i → i ≡ n → all p n ≡ true
-  search-all s e = eq-eqb _ n (search-over (λ j. not (p j)) n i s (omega arith) ∙ e)
+use Rattle.loops.proofs.Search.{Searched, search-start, search-miss, firstFrom-same, any→, →any, none→, →none}
 
 pub any-suc : (p : ℕ → Bool) (n : ℕ) → any p (suc n) ≡ any p n || p n
 any-suc p n = go (any p n) refl

@@ -3,18 +3,12 @@ ghost use mathlib.Core.Path.{_≡_};
 ghost use Prim.Native.Nat.{_+_};
 ghost use Rattle.bits.specs.Bits.{bitAt};
 ghost use Rattle.loops.specs.Search.{all};
+ghost use Rattle.sound.specs.Ordinals.{MarkedTo};
 
-// How many words the marks have.
-pub(crate) const MARK_WORDS: usize = 8;
-
-// Each ordinal from 1 to p is marked.
+// Whether each ordinal from 1 to p is marked. 0 is, and none above p: so there are p + 1 marks exactly if they all are.
 pub(crate) fn all_marked(marks: &[u64], p: usize) -> bool
+    requires { ⌜ MarkedTo p (now marks) ⌝ }
     ensures { λ r. ⌜ r ≡ all (λ o. bitAt (now (marks .entry)) (o + 1)) p ⌝ }
 {
-    for o in 0..p {
-        if !bits::is_set(marks, o + 1) {
-            return false;
-        }
-    }
-    true
+    bits::count_set(marks) == p + 1
 }

@@ -5,7 +5,7 @@ ghost use mathlib.Core.Path.{_≡_};
 ghost use mathlib.Core.Bool.{not};
 ghost use Prim.Native.Nat.{_<_};
 ghost use Rattle.loops.specs.Search.{first};
-ghost use Rattle.rules.specs.Layout.{mostBookings, polls};
+ghost use Rattle.rules.specs.Layout.{polls};
 ghost use Rattle.rules.specs.IsSound.{chits, nameNew, bookingGood, recordGood, recordRows, badRecord};
 ghost use Rattle.name_filter.specs.Names.{namesBelow};
 ghost use Rattle.sound_rows.specs.HasBookings.{HasBookings};
@@ -85,11 +85,11 @@ fn stray_record(w: &[u16], n: usize) -> usize
 
 // The lowest row that breaks a rule, or 513: a record below n, then n for a missing ordinal, then a record that is not all zero.
 pub(crate) fn bad_row(w: &[u16], n: usize, limit: usize) -> usize
-    requires { ⌜ HasBookings (now w) n × (polls (now w) < mostBookings) × (limit ≡ chits (now w)) ⌝ }
+    requires { ⌜ HasBookings (now w) n × (polls (now w) < n) × (limit ≡ chits (now w)) ⌝ }
     ensures { λ r. ⌜ r ≡ badRecord (now (w .entry)) ⌝ }
 {
     let p = words::wide(words::header(w, layout::POLLS));
-    let mut marks = [0u64; ordinals::MARK_WORDS];
+    let mut marks = [0u64; bits::MARK_WORDS];
     let mut filter = [0u64; name_filter::FILTER_WORDS];
     let row = bad_record(w, n, limit, &mut marks, &mut filter);
     if row != n {

@@ -32,7 +32,7 @@ chits-requires c κs =
 bad-row-requires : tie.Need-bad-row-requires
 bad-row-requires c κs =
     let rules = headerGood→Rules _ (good (c .before .before .before)) in
-    (chits-requires (c .before) κs, omega (arith, rules .bookingsMost, rules .pollsMost), c .chits .ensures)
+    (chits-requires (c .before) κs, omega (arith, chits-requires (c .before) κs .counts, rules .pollsMost), c .chits .ensures)
 
 cast-row : tie.Need-cast-t10
 cast-row c =

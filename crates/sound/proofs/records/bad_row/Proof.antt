@@ -2,14 +2,14 @@
 use mathlib.Core.Path.{_≡_, sym, ap, _∙_}
 use mathlib.Core.Bool.{not}
 use mathlib.Core.List.{List}
-use Prim.Native.Nat.{ℕ, _≤_}
+use Prim.Native.Nat.{ℕ, _≤_, _<_}
 use native.Mathlib.Omega.{arith}
 use borrow.Author.Needs.{needs}
 use Rattle.loops.specs.Search.{first}
-use Rattle.rules.specs.Layout.{mostBookings, bookings}
+use Rattle.rules.specs.Layout.{mostBookings, bookings, polls}
 use Rattle.rules.specs.IsSound.{recordGood, ordinalsHeld}
 use Rattle.name_filter.proofs.Names.{namesBelow-zero}
-use Rattle.sound.proofs.Marks.{ordinalsBelow-zero, marked-held}
+use Rattle.sound.proofs.Marks.{ordinalsBelow-zero, marked-held, marked-to}
 use Rattle.sound.proofs.RecordRows.{lowestBelow, damaged-below, ordinal-missing, damaged-rest}
 use Rattle.sound.proofs.records.bad_row.Statement.{statement}
 use Rattle.sound.proofs.records.bad_row.Tie as tie
@@ -30,16 +30,10 @@ bad-record-requires : tie.Need-bad-record-requires
 bad-record-requires c κs =
     let S = c .before .before .before .before .before in
     let w = S .args .w .now in
-    (S .pre .0, record { whole = S .pre .0 .whole; within = omega arith; polled = S .pre .1; lower = sym (ordinalsBelow-zero w) }, S .pre .2, sym (namesBelow-zero w))
+    (S .pre .0, record { whole = S .pre .0 .whole; within = omega arith; polled = omega arith; lower = sym (ordinalsBelow-zero w) }, S .pre .2, sym (namesBelow-zero w))
 
 slice-aggregate-all-marked : tie.Need-slice-aggregate-all-marked
 slice-aggregate-all-marked c = search needs
-
-all-marked-requires : tie.Need-all-marked-requires
-all-marked-requires c κs = search needs
-
-stray-record-requires : tie.Need-stray-record-requires
-stray-record-requires c κs = search needs
 
 -- what the first pass found, and what it left marked
 module _ (B : tie.After-bad-record) where
@@ -60,29 +54,48 @@ some-bad c =
     let B = c .before .before .before in
     found B ∙ sym (damaged-below (w B) (fits B) (λ q. c .if1 .taken (found B ∙ q ∙ sym (S B .pre .0 .counts))))
 
--- where none below n is bad, the marks tell which ordinals are held
-module _ (c : tie.After-all-marked) where
+-- where none below n is bad
+module _ (m : tie.After-marks3) where
   abbrev B : tie.After-bad-record
-  B = c .before .before .before .before .before
+  B = m .before .before .before .before
+
+  reached : B .bad-record .result ≡ bookings (w B)
+  reached = m .before .if1 .left ∙ S B .pre .0 .counts
 
   none-below : lowestBelow (w B) ≡ bookings (w B)
-  none-below = sym (found B) ∙ c .before .before .if1 .left ∙ S B .pre .0 .counts
+  none-below = sym (found B) ∙ reached
 
-  held : c .all-marked .result ≡ ordinalsHeld (w B)
-  held =
-      let A = B .before .before .before in
-      c .all-marked .ensures
-      ∙ marked-held (w B) _ _ (B .bad-record .result) (S B .pre .1) (A .wide .ensures .0 ∙ A .before .header .ensures) (B .bad-record .ensures .1) (c .before .before .if1 .left ∙ S B .pre .0 .counts)
+  polled : B .before .before .before .wide .result ≡ polls (w B)
+  polled = let A = B .before .before .before in A .wide .ensures .0 ∙ A .before .header .ensures
+
+  polls-lt : polls (w B) < bookings (w B)
+  polls-lt = omega (arith, S B .pre .0 .counts, S B .pre .1)
+
+all-marked-requires : tie.Need-all-marked-requires
+all-marked-requires c κs =
+    marked-to (w (B c)) _ _ (B c .bad-record .result) (polls-lt c) (fits (B c)) (polled c) (B c .bad-record .ensures .1) (reached c) (none-below c)
+
+stray-record-requires : tie.Need-stray-record-requires
+stray-record-requires c κs = search needs
+
+-- the marks tell whether each ordinal is held
+held : (c : tie.After-all-marked) → c .all-marked .result ≡ ordinalsHeld (w (B (c .before)))
+held c =
+    let m = c .before in
+    c .all-marked .ensures
+    ∙ marked-held (w (B m)) _ _ (B m .bad-record .result) (polls-lt m) (fits (B m)) (polled m) (B m .bad-record .ensures .1) (reached m)
 
 none-missing : tie.Need-returns-2
 none-missing c =
     let M = c .before .before in
-    c .stray-record .ensures ∙ sym (damaged-rest (w (B M)) (fits (B M)) (none-below M) (sym (held M) ∙ c .before .if2 .taken))
+    let m = M .before in
+    c .stray-record .ensures ∙ sym (damaged-rest (w (B m)) (fits (B m)) (none-below m) (sym (held M) ∙ c .before .if2 .taken))
 
 some-missing : tie.Need-returns-3
 some-missing c =
     let M = c .before in
-    S (B M) .pre .0 .counts ∙ sym (ordinal-missing (w (B M)) (fits (B M)) (none-below M) (sym (held M) ∙ c .if2 .left))
+    let m = M .before in
+    S (B m) .pre .0 .counts ∙ sym (ordinal-missing (w (B m)) (fits (B m)) (none-below m) (sym (held M) ∙ c .if2 .left))
 
 pub bad-row-spec : {M : Type 1} → statement M
 bad-row-spec =
