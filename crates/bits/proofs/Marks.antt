@@ -20,11 +20,11 @@ use Rattle.bits.proofs.Bits.{withBit-length, bitAt-withBit-same, bitAt-
 
 pub length-marksIn : (m : List ℕ) → length (marksIn m) ≡ 64 * length m
 unfolding marksIn
-length-marksIn m = length-from _ 0 (64 * length m)
+length-marksIn m = length-from _ _ (64 * length m)
 
 getD-marksIn : (m : List ℕ) (j : ℕ) → j < 64 * length m → getD (marksIn m) j 0 ≡ bit (bitAt m j)
 unfolding marksIn
-getD-marksIn m j h = getD-from (λ i. bit (bitAt m i)) 0 (64 * length m) j h ∙ ap (λ i. bit (bitAt m i)) (omega arith)
+getD-marksIn m j h = getD-from (λ i. bit (bitAt m i)) _ (64 * length m) j h ∙ ap (λ i. bit (bitAt m i)) (omega arith)
 
 bit-is : (b : Bool) → eqb (bit b) 1 ≡ b
 bit-is true = refl
@@ -93,10 +93,9 @@ module _ (m : List ℕ) (q x : ℕ) where
   -- and is set there
   pub mark-own : (p : ℕ) → q < length m → p / 64 ≡ q → marksWith m q (bitOr x (2 ^ (p % 64))) ≡ mark p (marksWith m q x)
   unfolding withBit
-  mark-own p h e = ap marksIn (sym (here p h e)) ∙ mark-bit (set m q x) p
-    where
-      here : (p : ℕ) → q < length m → p / 64 ≡ q → withBit p (set m q x) ≡ set m q (bitOr x (2 ^ (p % 64)))
-      here p h e = rw (e, getD-set-same m q x 0 h) (set-set m q x (bitOr x (2 ^ (p % 64))))
+  mark-own p h e =
+      let here : withBit p (set m q x) ≡ set m q (bitOr x (2 ^ (p % 64))) = rw (e, getD-set-same m q x 0 h) (set-set m q x (bitOr x (2 ^ (p % 64)))) in
+      ap marksIn (sym here) ∙ mark-bit (set m q x) p
 
   -- any other where it stands
   pub mark-other : (p : ℕ) → p / 64 ≢ q → marksWith (withBit p m) q x ≡ mark p (marksWith m q x)
