@@ -1,5 +1,4 @@
 // A completed poll on words that are known to be a ledger: refusals 1, 2, 14 and 15 are judged above, once, and every other one here, in its order.
-use poll_writes::writing;
 use rules::layout;
 use terms::answer::Answer;
 use terms::answer::Found;
@@ -29,13 +28,8 @@ fn write_poll(w: &mut [u16], i: usize, votes: &[u8])
     requires { ⌜ Ledger (now w) × (i < bookings (now w)) ⌝ }
     ensures { λ _. ⌜ now (w .exit) ≡ polled (now (w .entry)) i (now (votes .entry)) ⌝ }
 {
-    if is_success(w, votes) {
-        let mut marks = [0u64; bits::MARK_WORDS];
-        ancestry::mark_ancestry(w, &mut marks, i);
-        writing::write_success(w, &marks, i);
-    } else {
-        writing::write_failure(w, i);
-    }
+    let success = is_success(w, votes);
+    poll_outcome::write_outcome(w, i, success);
 }
 
 // The state of booking i isn't 0.

@@ -1,4 +1,4 @@
--- The test of success chooses between what a success leaves, with the marks of the ancestry, and what a failure leaves.
+-- The test of success chooses the outcome.
 use Rattle.rules.specs.Poll.{polled}
 use borrow.Author.Needs.{needs}
 use Rattle.known_poll.proofs.write_poll.Statement.{statement}
@@ -7,51 +7,17 @@ use Rattle.known_poll.proofs.write_poll.Tie as tie
 is-success-requires : tie.Need-is-success-requires
 is-success-requires c κs = search needs
 
-slice-aggregate-mark-ancestry : tie.Need-slice-aggregate-mark-ancestry
-slice-aggregate-mark-ancestry c = search needs
-
-mark-ancestry-requires : tie.Need-mark-ancestry-requires
-mark-ancestry-requires c κs = search needs
-
-slice-aggregate-write-success : tie.Need-slice-aggregate-write-success
-slice-aggregate-write-success c = search needs
-
-write-success-requires : tie.Need-write-success-requires
-write-success-requires c κs = search needs
-
-write-failure-requires : tie.Need-write-failure-requires
-write-failure-requires c κs = search needs
+write-outcome-requires : tie.Need-write-outcome-requires
+write-outcome-requires c κs = search needs
 
 same-length : tie.Need-same-length
 same-length c = search needs
 
-succeeds : tie.Need-returns
+returns : tie.Need-returns
 unfolding polled
-succeeds c =
-    let M = c .before .before .before .before .before .before in
-    let I = M .before .before .before in
-    simp (← I .before .is-success .ensures, I .if1 .taken, ← M .mark-ancestry .ensures) (c .before .before .write-success .ensures)
-
-same-length-2 : tie.Need-same-length-2
-same-length-2 c = search needs
-
-fails : tie.Need-returns-2
-unfolding polled
-fails c =
-    let I = c .before .before .before .before in
-    simp (← I .before .is-success .ensures, I .if1 .left) (c .before .before .write-failure .ensures)
+returns c =
+    let O = c .before .before in
+    rw (O .before .before .is-success .ensures) at (O .write-outcome .ensures)
 
 pub write-poll-spec : {M : Type 1} → statement M
-write-poll-spec =
-    tie.close
-    (tie.spec
-    is-success-requires
-    slice-aggregate-mark-ancestry
-    mark-ancestry-requires
-    slice-aggregate-write-success
-    write-success-requires
-    write-failure-requires
-    same-length
-    succeeds
-    same-length-2
-    fails)
+write-poll-spec = tie.close (tie.spec is-success-requires write-outcome-requires same-length returns)
