@@ -3,3 +3,4 @@ pub mod Bits
 pub mod Counted
 pub mod Marks
 pub mod MarksTell
+pub mod SetBelow

@@ -6,8 +6,9 @@ use lib.Dec.{eqb}
 use lib.ListN.{length, set, replicate}
 use Rattle.loops.specs.Fill.{from}
 use Rattle.loops.specs.Total.{bit}
+use Rattle.loops.specs.Turns.{upTo}
 use Rattle.rules.specs.Ancestry.{isMember}
-use Rattle.bits.specs.Bits.{bitIn, bitAt}
+use Rattle.bits.specs.Bits.{bitIn, bitAt, withBit}
 
 -- words of 64 bits, one bit for each number that a booking, or an ordinal, may have
 abbrev pub markWords : ℕ
@@ -28,3 +29,7 @@ MarkIn x m j = isMember m j ≡ eqb (bitIn x (j % 64)) 1
 -- eight words with no bit set
 abbrev pub noMarks : List ℕ
 noMarks = replicate markWords 0
+
+-- bits f 0, f 1, .., f (i - 1) set in them
+unfoldable pub setBelow : (ℕ → ℕ) → ℕ → List ℕ
+setBelow f i = upTo (λ j. withBit (f j)) i noMarks

@@ -26,6 +26,12 @@ and-right false b e = absurd (true≢false (sym e))
 pub and-both : (a b : Bool) → a ≡ true → b ≡ true → (a && b) ≡ true
 and-both a b p q = rw (p, q)
 
+-- a test in the place of one that it agrees with where those before pass
+pub and-judged : (a s m n : Bool) → (s ≡ true → m ≡ n) → (a && s && m) ≡ (a && s && n)
+and-judged true true m n h = h refl
+and-judged true false m n h = refl
+and-judged false s m n h = refl
+
 rowFrom-head : (a : Bool) (l : List Bool) → rowFrom a l ≡ true → a ≡ true
 rowFrom-head a [] e = e
 rowFrom-head a (b ∷ l) e = and-left a b (rowFrom-head (a && b) l e)
@@ -52,7 +58,12 @@ rowFrom-by a (b ∷ l) p = λ q. rowFrom-by (a && b) l (and-both a b p q)
 pub row-by : (l : List Bool) → Given l (row l ≡ true)
 row-by l = rowFrom-by true l refl
 
--- ---- either, and one by a test
+-- ---- one that can't pass, either, and one by a test
+
+-- a test that can't pass fails
+pub refuted : (t : Bool) → (t ≡ true → ⊥) → t ≡ false
+refuted true h = absurd (h refl)
+refuted false h = refl
 
 -- where neither passes, both fail
 pub neither : (a b : Bool) → (a || b) ≡ false → (a ≡ false) × (b ≡ false)

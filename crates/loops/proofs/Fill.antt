@@ -2,10 +2,10 @@
 use mathlib.Core.Path.{_≡_, refl, sym, ap, ap₂, _∙_}
 use mathlib.Core.List.{List, [], _∷_, _++_}
 use Prim.Native.Nat.{ℕ, zero, suc, _+_, _-_, _<_, _≤_}
-use native.Mathlib.Nat.{add-zero, add-suc, suc-add, le-of-suc-le-suc, not-suc-le-zero}
+use native.Mathlib.Nat.{zero-add, add-zero, add-suc, suc-add, le-of-suc-le-suc, not-suc-le-zero}
 use native.Mathlib.Omega.{arith}
 use lib.ListN.{length, getD, take, drop}
-use lib.Seq.{drop-cons}
+use lib.Seq.{drop-cons, ext-getD}
 use Rattle.loops.specs.Fill.{from}
 
 module _ {ℓ} {A : Type ℓ} (f : ℕ → A) where
@@ -63,3 +63,9 @@ pub from-shift {ℓ} : {A : Type ℓ} (f : ℕ → A) (s i n : ℕ) → from (λ
 unfolding from
 from-shift f s i zero = refl
 from-shift f s i (suc n) = ap (λ l. f (s + i) ∷ l) (rw (← add-suc s i) (from-shift f s (suc i) n))
+
+-- a list is written from its own elements
+pub from-elements : (l : List ℕ) → from (λ a. getD l a 0) 0 (length l) ≡ l
+from-elements l =
+    let long : length (from (λ a. getD l a 0) 0 (length l)) ≡ length l = length-from (λ a. getD l a 0) 0 (length l) in
+    ext-getD 0 (from (λ a. getD l a 0) 0 (length l)) l long (λ i h. rw zero-add at (getD-from (λ a. getD l a 0) 0 (length l) i (omega arith)))

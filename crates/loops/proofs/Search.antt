@@ -1,14 +1,16 @@
 -- Laws of a search that counts up: what is left to search at i, that what is found is the first, and what `all` and `any` say.
 use mathlib.Core.Path.{_≡_, refl, sym, ap, _∙_}
-use mathlib.Core.Bool.{Bool, true, false, not, true≢false, false≢true}
+use mathlib.Core.Bool.{Bool, true, false, not, _&&_, _||_, true≢false, false≢true}
 use mathlib.Core.Logic.{⊎-elim}
 use Prim.Native.Nat.{ℕ, zero, suc, _+_, _-_, _<_, _≤_}
 use native.Mathlib.Numerals.{add-one}
-use native.Mathlib.Nat.{sub-zero, eq-or-lt-of-le}
+use native.Mathlib.Nat.{sub-zero, eq-or-lt-of-le, le-of-suc-le-suc}
 use native.Mathlib.Decide.{decLt}
 use native.Mathlib.Omega.{arith}
+use lib.Dec.{eqb, ltb}
 use borrow.Author.Tests.{eqb-true, eq-eqb, ne-eqb, ltb-true, lt-ltb, le-ltb, ltb-false, not-true, not-false}
 use Rattle.loops.specs.Search.{firstFrom, first, all, any}
+use Rattle.loops.proofs.Bools.{and-left, and-right, and-both, refuted}
 
 -- ---- one step, as a loop that counts has it
 
@@ -164,3 +166,52 @@ not-all p n = go (decLt (first (λ i. not (p i)) n) n)
     go (no l) =
         le-ltb (first (λ i. not (p i)) n) n (omega arith)
         ∙ sym (ap not (eq-eqb (first (λ i. not (p i)) n) n (omega (arith, first-le (λ i. not (p i)) n))))
+
+-- ---- over one number more, and tests that agree
+
+pub any-none : (p : ℕ → Bool) → any p 0 ≡ false
+unfolding firstFrom
+any-none p = refl
+
+pub any-suc : (p : ℕ → Bool) (n : ℕ) → any p (suc n) ≡ any p n || p n
+any-suc p n = go (any p n) refl
+  where
+    last : (t : Bool) → p n ≡ t → any p n ≡ false → any p (suc n) ≡ t
+    last true e none = →any p (suc n) n (omega arith) e
+    last false e none =
+        →none p (suc n) (λ j h. ⊎-elim (λ (q : j ≡ n). ap p q ∙ e) (λ (q : j < n). none→ p n none j q) (eq-or-lt-of-le (le-of-suc-le-suc h)))
+
+    go : (t : Bool) → any p n ≡ t → any p (suc n) ≡ t || p n
+    go true e = let f = any→ p n e in →any p (suc n) (f .0) (omega (arith, f .1)) (f .2)
+    go false e = last (p n) refl e
+
+-- tests that agree below n all pass alike
+pub all-same : (p q : ℕ → Bool) (n : ℕ) → ((j : ℕ) → j < n → p j ≡ q j) → all p n ≡ all q n
+all-same p q n h =
+    ap (λ (k : ℕ). eqb k n) (firstFrom-same (λ j. not (p j)) (λ j. not (q j)) 0 n (λ j l u. ap not (h j (omega arith))))
+
+-- and some passes alike
+pub any-same : (p q : ℕ → Bool) (n : ℕ) → ((j : ℕ) → j < n → p j ≡ q j) → any p n ≡ any q n
+any-same p q n h = ap (λ (k : ℕ). ltb k n) (firstFrom-same p q 0 n (λ j l u. h j (omega arith)))
+
+-- each passes one test and fails another exactly if all pass the one and none passes the other
+pub all-but : (p q : ℕ → Bool) (n : ℕ) → all (λ a. p a && not (q a)) n ≡ all p n && not (any q n)
+all-but p q n = go (all p n) (any q n) refl refl
+  where
+    both : ℕ → Bool
+    both a = p a && not (q a)
+
+    go : (s t : Bool) → all p n ≡ s → any q n ≡ t → all both n ≡ s && not t
+    go true false e f = →all both n (λ a u. and-both (p a) (not (q a)) (all→ p n e a u) (ap not (none→ q n f a u)))
+    go true true e f =
+        let hit = any→ q n f in
+        refuted (all both n) (λ g. true≢false (sym (and-right (p (hit .0)) (not (q (hit .0))) (all→ both n g (hit .0) (hit .1))) ∙ ap not (hit .2)))
+    go false t e f = refuted (all both n) (λ g. true≢false (sym (→all p n (λ a u. and-left (p a) (not (q a)) (all→ both n g a u))) ∙ e))
+
+-- a search ends at m where every number below m fails, and m passes unless it is the end
+pub first-ends : (p : ℕ → Bool) (n m : ℕ) → m ≤ n → ((j : ℕ) → j < m → p j ≡ false) → (m < n → p m ≡ true) → first p n ≡ m
+first-ends p n m l before hit = go (decLt m n)
+  where
+    go : Dec (m < n) → first p n ≡ m
+    go (yes u) = first-unique p n m u (hit u) before
+    go (no u) = omega (arith, first-le p n, ltb-false (first p n) n (→none p n (λ j h. before j (omega arith))))

@@ -1,6 +1,6 @@
 -- Every name noted so far has both bits set, so one with a bit that is not set is new.
 use mathlib.Core.Path.{_≡_, refl, sym, ap, ap₂, _∙_}
-use mathlib.Core.Bool.{Bool, true, false, not, _&&_, true≢false}
+use mathlib.Core.Bool.{Bool, true, false, _&&_, true≢false}
 use mathlib.Core.List.{List}
 use Prim.Native.Nat.{ℕ, _+_, _<_}
 use native.Mathlib.Omega.{arith}
@@ -12,26 +12,24 @@ use Rattle.bits.proofs.Bits.{withBit-length, bitAt-withBit-same, bitAt-withBit-
 use Rattle.loops.specs.Search.{any}
 use Rattle.loops.proofs.Search.{any→}
 use Rattle.loops.proofs.Turns.{upTo-zero, upTo-more, upTo-kept, upTo-since}
-use Rattle.rules.specs.Layout.{nameOf}
-use Rattle.rules.specs.IsSound.{nameNew}
-use Rattle.name_filter.specs.Names.{filterWords, firstBit, secondBit, isNoted, withNoted, namesBelow}
+use Rattle.name_filter.specs.Names.{filterWords, firstBit, secondBit, isNoted, withNoted, namesNoted}
 
 pub noted-length : (name : ℕ) (f : List ℕ) → length (withNoted name f) ≡ length f
 noted-length name f = withBit-length (secondBit name) (withBit (firstBit name) f) ∙ withBit-length (firstBit name) f
 
-pub namesBelow-length : (w : List ℕ) (i : ℕ) → length (namesBelow w i) ≡ filterWords
-unfolding namesBelow
-namesBelow-length w i =
-    upTo-kept (λ j. withNoted (nameOf w j)) (λ f. length f ≡ filterWords) i (λ j l f e. noted-length (nameOf w j) f ∙ e) (replicate filterWords 0) (length-replicate {A = ℕ} filterWords 0)
+pub namesNoted-length : (f : ℕ → ℕ) (i : ℕ) → length (namesNoted f i) ≡ filterWords
+unfolding namesNoted
+namesNoted-length f i =
+    upTo-kept (λ j. withNoted (f j)) (λ m. length m ≡ filterWords) i (λ j l m e. noted-length (f j) m ∙ e) (replicate filterWords 0) (length-replicate {A = ℕ} filterWords 0)
 
 -- the turns of the loop that notes
-pub namesBelow-zero : (w : List ℕ) → namesBelow w 0 ≡ replicate filterWords 0
-unfolding namesBelow
-namesBelow-zero w = upTo-zero _ _
+pub namesNoted-zero : (f : ℕ → ℕ) → namesNoted f 0 ≡ replicate filterWords 0
+unfolding namesNoted
+namesNoted-zero f = upTo-zero _ _
 
-pub namesBelow-more : (w : List ℕ) (i : ℕ) → namesBelow w (i + 1) ≡ withNoted (nameOf w i) (namesBelow w i)
-unfolding namesBelow
-namesBelow-more w i = upTo-more _ i _
+pub namesNoted-more : (f : ℕ → ℕ) (i : ℕ) → namesNoted f (i + 1) ≡ withNoted (f i) (namesNoted f i)
+unfolding namesNoted
+namesNoted-more f i = upTo-more _ i _
 
 -- a whole filter in which both bits of the name are set
 record Has (name : ℕ) (f : List ℕ) : Type 0 where
@@ -56,20 +54,20 @@ noted-has name f e =
       second = bitAt-withBit-same (withBit (firstBit name) f) (secondBit name) (omega arith);
     }
 
--- the name of a lower record is noted
-namesBelow-has : (w : List ℕ) (i j : ℕ) → j < i → Has (nameOf w j) (namesBelow w i)
-unfolding namesBelow
-namesBelow-has w i j l =
-    upTo-since (λ k. withNoted (nameOf w k)) (Has (nameOf w j)) i j l (replicate filterWords 0) (noted-has (nameOf w j) _ (namesBelow-length w j)) (λ k u v f h. withBit-has (nameOf w j) _ _ (withBit-has (nameOf w j) _ f h))
+-- an earlier name is noted
+namesNoted-has : (f : ℕ → ℕ) (i j : ℕ) → j < i → Has (f j) (namesNoted f i)
+unfolding namesNoted
+namesNoted-has f i j l =
+    upTo-since (λ k. withNoted (f k)) (Has (f j)) i j l (replicate filterWords 0) (noted-has (f j) _ (namesNoted-length f j)) (λ k u v m h. withBit-has (f j) _ _ (withBit-has (f j) _ m h))
 
--- so a name that is not noted is new
-pub isNoted-new : (w : List ℕ) (i : ℕ) → isNoted (namesBelow w i) (nameOf w i) ≡ false → nameNew w i ≡ true
-isNoted-new w i e = go (any (λ j. eqb (nameOf w j) (nameOf w i)) i) refl
+-- so a name that is not noted is none of them
+pub isNoted-new : (f : ℕ → ℕ) (i name : ℕ) → isNoted (namesNoted f i) name ≡ false → any (λ j. eqb (f j) name) i ≡ false
+isNoted-new f i name e = go (any (λ j. eqb (f j) name) i) refl
   where
-    go : (t : Bool) → any (λ j. eqb (nameOf w j) (nameOf w i)) i ≡ t → not t ≡ true
+    go : (t : Bool) → any (λ j. eqb (f j) name) i ≡ t → t ≡ false
     go false q = refl
     go true q =
-        let s = any→ (λ j. eqb (nameOf w j) (nameOf w i)) i q in
-        let h = namesBelow-has w i (s .0) (s .1) in
-        let n = eqb-true (nameOf w (s .0)) (nameOf w i) (s .2) in
-        absurd (true≢false (sym (ap₂ _&&_ (h .first) (h .second)) ∙ ap (isNoted (namesBelow w i)) n ∙ e))
+        let s = any→ (λ j. eqb (f j) name) i q in
+        let h = namesNoted-has f i (s .0) (s .1) in
+        let n = eqb-true (f (s .0)) name (s .2) in
+        absurd (true≢false (sym (ap₂ _&&_ (h .first) (h .second)) ∙ ap (isNoted (namesNoted f i)) n ∙ e))

@@ -1,4 +1,4 @@
--- Which names the records so far have, as a filter of bits. A name has two: its remainders by two primes, chosen so that names made of a part for the
+-- Which names were noted so far, as a filter of bits. A name has two: its remainders by two primes, chosen so that names made of a part for the
 -- station and a number that counts seldom share both. A name with a bit that is not set is new; one with both set may be.
 use Prim.Native.Nat.{ℕ, _%_}
 use mathlib.Core.Bool.{Bool, _&&_}
@@ -26,6 +26,10 @@ isNoted f name = bitAt f (firstBit name) && bitAt f (secondBit name)
 abbrev pub withNoted : ℕ → List ℕ → List ℕ
 withNoted name f = withBit (secondBit name) (withBit (firstBit name) f)
 
+-- the names f 0, f 1, .., f (i - 1)
+unfoldable pub namesNoted : (ℕ → ℕ) → ℕ → List ℕ
+namesNoted f i = upTo (λ j. withNoted (f j)) i (replicate filterWords 0)
+
 -- the names of the records below i
-unfoldable pub namesBelow : List ℕ → ℕ → List ℕ
-namesBelow w i = upTo (λ j. withNoted (nameOf w j)) i (replicate filterWords 0)
+abbrev pub namesBelow : List ℕ → ℕ → List ℕ
+namesBelow w i = namesNoted (nameOf w) i

@@ -1,10 +1,10 @@
-// Names: is one new among the lower records. A filter of bits tells most new names at once; only where it can't are the lower records looked through.
+// Names: is one new among those before it. A filter of bits tells most new names at once; only where it can't is a look back needed.
 ghost use mathlib.Core.Path.{_≡_};
 ghost use Prim.Native.Nat.{_<_};
 ghost use lib.ListN.{length};
 ghost use Rattle.rules.specs.Layout.{size, mostBookings, nameOf};
 ghost use Rattle.rules.specs.IsSound.{nameNew};
-ghost use Rattle.name_filter.specs.Names.{firstBit, secondBit, withNoted, namesBelow};
+ghost use Rattle.name_filter.specs.Names.{firstBit, secondBit, isNoted, withNoted, namesBelow};
 
 // How many words a filter has.
 pub const FILTER_WORDS: usize = 124;
@@ -26,6 +26,18 @@ fn second_bit(name: u64) -> usize
     (name % SECOND_PRIME) as usize
 }
 
+// Notes a name in the filter, and tells whether both of its bits were set. If not, no name noted before is this one.
+pub fn note(filter: &mut [u64], name: u64) -> bool
+    ensures { λ r. ⌜ (r ≡ isNoted (now (filter .entry)) name) × (now (filter .exit) ≡ withNoted name (now (filter .entry))) ⌝ }
+{
+    let a = first_bit(name);
+    let b = second_bit(name);
+    let seen = bits::is_set(filter, a) & bits::is_set(filter, b);
+    bits::set_bit(filter, a);
+    bits::set_bit(filter, b);
+    seen
+}
+
 // No lower record has the name of record i: a look at each.
 fn look_back(w: &[u16], i: usize, name: u64) -> bool
     requires { ⌜ (length (now w) ≡ size) × (i < mostBookings) × (name ≡ nameOf (now w) i) ⌝ }
@@ -45,12 +57,7 @@ pub fn enter(w: &[u16], i: usize, filter: &mut [u64]) -> bool
     ensures { λ r. ⌜ (r ≡ nameNew (now (w .entry)) i) × (now (filter .exit) ≡ withNoted (nameOf (now (w .entry)) i) (now (filter .entry))) ⌝ }
 {
     let name = words::name(w, i);
-    let a = first_bit(name);
-    let b = second_bit(name);
-    let seen = bits::is_set(filter, a) & bits::is_set(filter, b);
-    bits::set_bit(filter, a);
-    bits::set_bit(filter, b);
-    if seen {
+    if note(filter, name) {
         return look_back(w, i, name);
     }
     true

@@ -1,49 +1,26 @@
 -- The marks say which ordinals the records so far hold, and their number whether one is missing.
 use mathlib.Core.Path.{_≡_, refl, ap, _∙_}
-use mathlib.Core.Bool.{Bool, true, false, cond, not, _&&_, _||_, and-eq-true-iff}
+use mathlib.Core.Bool.{true, cond, not, _&&_, _||_, and-eq-true-iff}
 use mathlib.Core.List.{List}
-use Prim.Native.Nat.{ℕ, zero, suc, _+_, _*_, _-_, _<_, _≤_}
+use Prim.Native.Nat.{ℕ, suc, _+_, _*_, _-_, _<_, _≤_}
 use native.Mathlib.Numerals.{add-one}
 use native.Mathlib.Omega.{arith}
 use lib.Dec.{eqb, eqb·suc-suc, leb, ltb}
-use lib.ListN.{length, length-replicate}
 use borrow.Author.Tests.{leb-true, eq-eqb, ne-eqb}
-use Rattle.bits.specs.Bits.{bitAt, withBit}
-use Rattle.bits.specs.Marks.{markWords, noMarks}
-use Rattle.bits.proofs.Bits.{withBit-length, bitAt-withBit, bitAt-zeros}
-use Rattle.loops.specs.Search.{any, all}
+use Rattle.bits.specs.Bits.{bitAt}
+use Rattle.bits.specs.Marks.{markWords}
+use Rattle.bits.proofs.SetBelow.{setBelow-length, bitAt-setBelow}
+use Rattle.loops.specs.Search.{all}
 use Rattle.loops.specs.Total.{bit, count}
-use Rattle.loops.proofs.Search.{→any, →none}
+use Rattle.loops.proofs.Bools.{and-judged}
+use Rattle.loops.proofs.Search.{→any, →none, all-same}
 use Rattle.loops.proofs.Total.{total-same, total-split, total-cut, total-more, total-zero, count-all}
-use Rattle.loops.proofs.Turns.{upTo-zero, upTo-more, upTo-kept}
 use Rattle.rules.specs.Layout.{mostBookings, slots, bookings, polls, slotOf, stateOf, ordinalOf}
 use Rattle.rules.specs.IsSound.{nameNew, parentsGood, stateGood, bookingGood, ordinalsHeld}
 use Rattle.rules.specs.RowRules.{RulesBelow}
 use Rattle.rule_laws.proofs.RowRules.{recordRow→Rules}
-use Rattle.sound_rows.proofs.Few.{any-none}
 use Rattle.sound.specs.Ordinals.{ordinalsBelow, MarkedTo}
-use Rattle.sound.proofs.Searches.{any-suc, all-same}
 use Rattle.sound.proofs.RecordRows.{lowestBelow, good-before}
-
-pub ordinalsBelow-length : (w : List ℕ) (i : ℕ) → length (ordinalsBelow w i) ≡ markWords
-unfolding ordinalsBelow
-ordinalsBelow-length w i =
-    upTo-kept (λ j. withBit (ordinalOf w j)) (λ m. length m ≡ markWords) i (λ j l m e. withBit-length (ordinalOf w j) m ∙ e) noMarks (length-replicate {A = ℕ} markWords 0)
-
--- the turns of the loop that marks
-pub ordinalsBelow-zero : (w : List ℕ) → ordinalsBelow w 0 ≡ noMarks
-unfolding ordinalsBelow
-ordinalsBelow-zero w = upTo-zero _ _
-
-pub ordinalsBelow-more : (w : List ℕ) (i : ℕ) → ordinalsBelow w (i + 1) ≡ withBit (ordinalOf w i) (ordinalsBelow w i)
-unfolding ordinalsBelow
-ordinalsBelow-more w i = upTo-more _ i _
-
--- an ordinal is marked exactly if a record below i holds it
-pub bitAt-ordinalsBelow : (w : List ℕ) (i o : ℕ) → o < mostBookings → bitAt (ordinalsBelow w i) o ≡ any (λ j. eqb (ordinalOf w j) o) i
-bitAt-ordinalsBelow w zero o h = rw (ordinalsBelow-zero w, bitAt-zeros markWords o h, any-none)
-bitAt-ordinalsBelow w (suc i) o h =
-    rw (← add-one i, ordinalsBelow-more w i, bitAt-withBit (ordinalsBelow w i) (ordinalOf w i) o (omega (arith, ordinalsBelow-length w i)), bitAt-ordinalsBelow w i o h, add-one, any-suc)
 
 -- ---- the marks judge an ordinal as a look back does
 
@@ -53,17 +30,12 @@ unfolding stateGood
 ordinal-lt w i h e =
     omega (arith, leb-true (ordinalOf w i) (polls w) (and-eq-true-iff (leb (stateOf w i) 2 && cond (eqb (stateOf w i) 0) (eqb (ordinalOf w i) 0) (not (eqb (ordinalOf w i) 0))) (leb (ordinalOf w i) (polls w)) .0 e .1))
 
-judged : (a s m n : Bool) → (s ≡ true → m ≡ n) → (a && s && m) ≡ (a && s && n)
-judged true true m n h = h refl
-judged true false m n h = refl
-judged false s m n h = refl
-
 pub bookingGood-marked : (w : List ℕ) (i : ℕ) → polls w < mostBookings
     → (nameNew w i && leb 1 (slotOf w i) && ltb (slotOf w i) slots && parentsGood w i && stateGood w i
     && (eqb (ordinalOf w i) 0 || not (bitAt (ordinalsBelow w i) (ordinalOf w i)))) ≡ bookingGood w i
 unfolding bookingGood
 bookingGood-marked w i h =
-    judged (nameNew w i && leb 1 (slotOf w i) && ltb (slotOf w i) slots && parentsGood w i) (stateGood w i) _ _ (λ e. rw (bitAt-ordinalsBelow w i (ordinalOf w i) (ordinal-lt w i h e)))
+    and-judged (nameNew w i && leb 1 (slotOf w i) && ltb (slotOf w i) slots && parentsGood w i) (stateGood w i) _ _ (λ e. rw (bitAt-setBelow (ordinalOf w) i (ordinalOf w i) (ordinal-lt w i h e)))
 
 -- ---- a pass over all records
 
@@ -71,20 +43,20 @@ module _ (w marks : List ℕ) (p i : ℕ) (h : polls w < bookings w) (fits : boo
   -- the marks that it leaves say whether every ordinal is held
   pub marked-held : all (λ o. bitAt marks (o + 1)) p ≡ ordinalsHeld w
   marked-held =
-      rw (polled, marked, reached) (all-same _ _ (polls w) (λ o l. bitAt-ordinalsBelow w (bookings w) (o + 1) (omega arith)))
+      rw (polled, marked, reached) (all-same _ _ (polls w) (λ o l. bitAt-setBelow (ordinalOf w) (bookings w) (o + 1) (omega arith)))
 
   -- where no record breaks a rule they are 0 and none above p
   pub marked-to : lowestBelow w ≡ bookings w → MarkedTo p marks
   marked-to none-bad =
       rw (polled, marked, reached)
       (record {
-        whole = ordinalsBelow-length w (bookings w);
+        whole = setBelow-length (ordinalOf w) (bookings w);
         within = omega arith;
         genesis =
-            bitAt-ordinalsBelow w (bookings w) 0 (omega arith)
+            bitAt-setBelow (ordinalOf w) (bookings w) 0 (omega arith)
             ∙ →any (λ j. eqb (ordinalOf w j) 0) (bookings w) 0 (omega arith) (eq-eqb (ordinalOf w 0) 0 (rules 0 (omega arith) .genesis refl .ordinal));
         noneAbove = λ o l u.
-            bitAt-ordinalsBelow w (bookings w) o u
+            bitAt-setBelow (ordinalOf w) (bookings w) o u
             ∙ →none (λ j. eqb (ordinalOf w j) o) (bookings w) (λ j v. ne-eqb (ordinalOf w j) o (λ e. omega (arith, rules j v .ordinalMost)));
       })
     where

@@ -4,14 +4,13 @@ use mathlib.Core.Path.{_≡_}
 use mathlib.Core.Bool.{true, false}
 use mathlib.Core.List.{List}
 use lib.ListN.{length}
-use Rattle.bits.specs.Bits.{bitAt, withBit}
-use Rattle.bits.specs.Marks.{markWords, noMarks}
-use Rattle.loops.specs.Turns.{upTo}
+use Rattle.bits.specs.Bits.{bitAt}
+use Rattle.bits.specs.Marks.{markWords, setBelow}
 use Rattle.rules.specs.Layout.{size, mostBookings, polls, ordinalOf}
 
 -- the ordinals of the records below i
-unfoldable pub ordinalsBelow : List ℕ → ℕ → List ℕ
-ordinalsBelow w i = upTo (λ j. withBit (ordinalOf w j)) i noMarks
+abbrev pub ordinalsBelow : List ℕ → ℕ → List ℕ
+ordinalsBelow w i = setBelow (ordinalOf w) i
 
 -- what a pass over a whole workspace knows on reaching record i: every ordinal that is allowed has a bit, and the marks are those of the lower records
 pub record Reached (w : List ℕ) (i : ℕ) (marks : List ℕ) : Type 0 where

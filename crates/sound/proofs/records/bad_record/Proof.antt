@@ -8,11 +8,12 @@ use lib.ListN.{length}
 use borrow.Author.Needs.{needs}
 use borrow.Author.Tests.{not-true, not-false}
 use Rattle.loops.proofs.Search.{Searched, search-start, search-hit, search-miss, search-over}
+use Rattle.rules.specs.Layout.{nameOf, ordinalOf}
 use Rattle.rules.specs.IsSound.{recordGood}
+use Rattle.bits.proofs.SetBelow.{setBelow-length, setBelow-more}
 use Rattle.name_filter.specs.Names.{namesBelow}
-use Rattle.name_filter.proofs.Names.{noted-length, namesBelow-length, namesBelow-more}
+use Rattle.name_filter.proofs.Names.{noted-length, namesNoted-length, namesNoted-more}
 use Rattle.sound.specs.Ordinals.{ordinalsBelow}
-use Rattle.sound.proofs.Marks.{ordinalsBelow-length, ordinalsBelow-more}
 use Rattle.sound.proofs.records.bad_record.Statement.{statement}
 use Rattle.sound.proofs.records.bad_record.Tie as tie
 
@@ -46,14 +47,14 @@ marks-length : tie.Need-same-length Inv-loop μ-loop
 marks-length c =
     let L = c .before .before .before .before .before .before .before .before in
     let S = L .before .before .before .before in
-    same-long (ordinalsBelow (S .args .w .now)) (ordinalsBelow-length (S .args .w .now)) (L .loop .inv .1) (S .pre .1 .lower)
+    same-long (ordinalsBelow (S .args .w .now)) (setBelow-length (ordinalOf (S .args .w .now))) (L .loop .inv .1) (S .pre .1 .lower)
 
 filter-length : tie.Need-same-length-2 Inv-loop μ-loop
 filter-length c =
     let E = c .before .before .before .before .before in
     let L = E .before .before .before in
     let S = L .before .before .before .before in
-    ap length (E .enter .ensures .1) ∙ noted-length _ _ ∙ same-long (namesBelow (S .args .w .now)) (namesBelow-length (S .args .w .now)) (L .loop .inv .2) (S .pre .3)
+    ap length (E .enter .ensures .1) ∙ noted-length _ _ ∙ same-long (namesBelow (S .args .w .now)) (namesNoted-length (nameOf (S .args .w .now))) (L .loop .inv .2) (S .pre .3)
 
 bad : tie.Need-returns Inv-loop μ-loop
 bad c =
@@ -79,19 +80,19 @@ loop-again c =
     let E = G .before .before .before .before in
     let L = E .before .before .before .loop in
     let again = search-miss _ _ _ (L .inv .3) (omega arith) (ap not (sym (G .record-good .ensures) ∙ not-false _ (M .before .before .before .if1 .left))) in
-    (omega arith, rw (ordinalsBelow-more, ← L .inv .1, ← M .before .before .wide-field .ensures) (M .set-bit .ensures), rw (namesBelow-more, ← L .inv .2) (E .enter .ensures .1), again)
+    (omega arith, rw (setBelow-more, ← L .inv .1, ← M .before .before .wide-field .ensures) (M .set-bit .ensures), rw (namesNoted-more, ← L .inv .2) (E .enter .ensures .1), again)
 
 marks-length-2 : tie.Need-same-length-3 Inv-loop μ-loop
 marks-length-2 c =
     let L = c .before in
     let S = L .before .before .before .before in
-    same-long (ordinalsBelow (S .args .w .now)) (ordinalsBelow-length (S .args .w .now)) (L .loop .inv .1) (S .pre .1 .lower)
+    same-long (ordinalsBelow (S .args .w .now)) (setBelow-length (ordinalOf (S .args .w .now))) (L .loop .inv .1) (S .pre .1 .lower)
 
 filter-length-2 : tie.Need-same-length-4 Inv-loop μ-loop
 filter-length-2 c =
     let L = c .before in
     let S = L .before .before .before .before in
-    same-long (namesBelow (S .args .w .now)) (namesBelow-length (S .args .w .now)) (L .loop .inv .2) (S .pre .3)
+    same-long (namesBelow (S .args .w .now)) (namesNoted-length (nameOf (S .args .w .now))) (L .loop .inv .2) (S .pre .3)
 
 all-good : tie.Need-returns-2 Inv-loop μ-loop
 all-good c =

@@ -6,10 +6,11 @@ use Prim.Native.Nat.{ℕ, _≤_, _<_}
 use native.Mathlib.Omega.{arith}
 use borrow.Author.Needs.{needs}
 use Rattle.loops.specs.Search.{first}
-use Rattle.rules.specs.Layout.{mostBookings, bookings, polls}
+use Rattle.rules.specs.Layout.{mostBookings, bookings, polls, nameOf, ordinalOf}
 use Rattle.rules.specs.IsSound.{recordGood, ordinalsHeld}
-use Rattle.name_filter.proofs.Names.{namesBelow-zero}
-use Rattle.sound.proofs.Marks.{ordinalsBelow-zero, marked-held, marked-to}
+use Rattle.bits.proofs.SetBelow.{setBelow-zero}
+use Rattle.name_filter.proofs.Names.{namesNoted-zero}
+use Rattle.sound.proofs.Marks.{marked-held, marked-to}
 use Rattle.sound.proofs.RecordRows.{lowestBelow, damaged-below, ordinal-missing, damaged-rest}
 use Rattle.sound.proofs.records.bad_row.Statement.{statement}
 use Rattle.sound.proofs.records.bad_row.Tie as tie
@@ -30,7 +31,7 @@ bad-record-requires : tie.Need-bad-record-requires
 bad-record-requires c κs =
     let S = c .before .before .before .before .before in
     let w = S .args .w .now in
-    (S .pre .0, record { whole = S .pre .0 .whole; within = omega arith; polled = omega arith; lower = sym (ordinalsBelow-zero w) }, S .pre .2, sym (namesBelow-zero w))
+    (S .pre .0, record { whole = S .pre .0 .whole; within = omega arith; polled = omega arith; lower = sym (setBelow-zero (ordinalOf w)) }, S .pre .2, sym (namesNoted-zero (nameOf w)))
 
 slice-aggregate-all-marked : tie.Need-slice-aggregate-all-marked
 slice-aggregate-all-marked c = search needs
