@@ -5,18 +5,19 @@
  * ledgers may live side by side. Every call takes any contents and any numbers: it answers, or refuses and changes no word
  * and no byte that it was lent.
  *
- * Each call returns 0 when it is taken and writes its value through the last pointer; open, book and poll have value 0, a
- * reading has what it tells, and writing a day file has the file's length. Open, book and poll alone change the workspace.
- * A refused call returns the number of its refusal and leaves every word of the workspace, and every byte of the buffer for
- * a file, as it was. It writes value 0, or, with FILZ_DAMAGED_RECORD and FILZ_DAMAGED_SLOT, the lowest row that breaks a rule.
+ * Each call returns 0 when it is taken and writes its value through the last pointer: the five readings have what they tell,
+ * and writing a day file has the file's length. Open, book, poll and reading a day file, which alone change the workspace,
+ * have value 0. A refused call returns the number of its refusal and leaves every word of the
+ * workspace, and every byte of the buffer for a file, as it was. It writes value 0, or, with FILZ_DAMAGED_RECORD and
+ * FILZ_DAMAGED_SLOT, the lowest row that breaks a rule.
  *
  * What the caller owes, since no C function can test it:
  *  - every pointer to words, parents, votes or bytes leads to as many elements as the count beside it says, and is aligned as
  *    its type asks. Where the count is 0 nothing is read or written through it, and it may be NULL;
  *  - `value` leads to one int64_t and is not NULL, and what it leads to does not overlap the workspace, the parents, the
- *    votes or the buffer for a file; neither do the parents, the votes or that buffer overlap the workspace;
- *  - while open, book or poll runs, no other thread uses the same workspace. Readings may run at the same time, and so may
- *    the writing of day files, each into a buffer that no other thread uses.
+ *    votes, the buffer for a file or the file; neither do the parents, the votes, that buffer or the file overlap the workspace;
+ *  - while open, book or poll runs, or a day file is read, no other thread uses the same workspace. The five readings may run at
+ *    the same time as one another and as the writing of day files, each into a buffer that no other thread uses.
  */
 #ifndef FILZHAMMER_H
 #define FILZHAMMER_H
@@ -130,7 +131,8 @@ enum filz_number {
     FILZ_BAD_VOTE = 13,       /* a vote is neither FILZ_YES, FILZ_NO nor FILZ_SILENT */
     FILZ_DAMAGED_RECORD = 14, /* the header is right and a record breaks a rule; its number is the value */
     FILZ_DAMAGED_SLOT = 15,   /* header and records are right and a slot entry breaks a rule; its slot is the value */
-    FILZ_SHORT_BUFFER = 16    /* the buffer is shorter than the file; FILZ_FILE_MOST bytes are enough for any */
+    FILZ_SHORT_BUFFER = 16,   /* the buffer is shorter than the file; FILZ_FILE_MOST bytes are enough for any */
+    FILZ_BAD_FILE = 17        /* no ledger that calls could have made has this file; a byte missing, or one more, is enough */
 };
 
 /*
@@ -183,7 +185,10 @@ uint32_t filz_accepted(const uint16_t *ws, size_t words, uint64_t name, int64_t 
 /* How far it is ahead of its best rival: its confidence, less the greatest of the slot's others (or less 0), -511 to 511. */
 uint32_t filz_lead(const uint16_t *ws, size_t words, uint64_t name, int64_t *value);
 
-/* Its confidence, 0 to 511: since the opening, how many successful polls were of a booking that has it in its ancestry. */
+/*
+ * Its confidence, 0 to 511: how many successful polls were of a booking that has it in its ancestry, since the opening, or in
+ * the day file that was read and since then.
+ */
 uint32_t filz_confidence(const uint16_t *ws, size_t words, uint64_t name, int64_t *value);
 
 /* How many members its ancestry has, 1 to 512. */
@@ -199,6 +204,24 @@ uint32_t filz_size(const uint16_t *ws, size_t words, uint64_t name, int64_t *val
  * FILZ_SHORT_BUFFER.
  */
 uint32_t filz_write_first(const uint16_t *ws, size_t words, uint8_t *out, size_t bytes, int64_t *value);
+
+/*
+ * Reads a day file, in its first form, and makes the words the ledger that it tells of, whatever they were before: the one
+ * that an opening with its setting, its bookings in their order and then its polls with their outcomes make. The value is 0.
+ * Writing after that gives the same bytes. A refused call leaves every word, and no call changes the file.
+ *
+ * `file` leads to `bytes` bytes, all of them the file's. It overlaps neither the workspace nor the value.
+ *
+ * A file is good if the writer could have written it after calls that were taken:
+ *  - it begins with 4 and a good setting, see FILZ_BAD_SETTING;
+ *  - it has at most 511 bookings. Each has a name that is not 0 and that no earlier one has, a slot from 1 to 255, and one to
+ *    four parents, each a lower number than its own and none of them twice;
+ *  - each poll is of a booking other than the genesis, none is of one that was polled before, and its outcome is 0 or 1;
+ *  - no byte is missing, and none follows.
+ *
+ * Refuses, in this order: FILZ_WRONG_LENGTH, FILZ_BAD_FILE.
+ */
+uint32_t filz_read_first(uint16_t *ws, size_t words, const uint8_t *file, size_t bytes, int64_t *value);
 
 #ifdef __cplusplus
 }

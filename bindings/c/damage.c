@@ -14,6 +14,9 @@ static uint16_t good[FILZ_WORDS];
 static uint16_t hit[FILZ_WORDS];
 static uint16_t lent[FILZ_WORDS];
 
+/* A day file to be read: the genesis alone. */
+static const uint8_t shortest[FILZ_FILE_LEAST] = {0, 4, 0, 3, 0, 2, 0, 1, 0, 2, 0, 0, 0, 0};
+
 /* Five bookings, of which 2 and 4 won their polls, 3 lost it and 1 waits for its own. */
 static uint32_t make_ledger(void)
 {
@@ -84,7 +87,7 @@ static void write_one(const char *after)
     answered(number, value, after);
 }
 
-/* Every call but open, each on its own copy: booking 5 on 1, polling 1, the five readings of 1, and writing the day file. */
+/* Every call but open and the reading of a file, each on its own copy: booking 5 on 1, polling 1, the five readings of 1, and writing the day file. */
 static void answers(void)
 {
     const uint64_t one[1] = {1};
@@ -152,7 +155,12 @@ int main(void)
     printf("full ledger, ");
     hit_word(FILZ_HEADER_P, 1); /* a poll whose ordinal nobody holds: number n is no record's */
 
-    /* Opening doesn't look at the words. */
+    /* Reading a day file doesn't look at the words, and neither does opening. */
+    memcpy(lent, hit, sizeof lent);
+    printf("read_first: %" PRIu32 "\n", filz_read_first(lent, FILZ_WORDS, shortest, sizeof shortest, &value));
+    printf("size of the genesis then: %" PRIu32, filz_size(lent, FILZ_WORDS, 0, &value));
+    printf(" %" PRId64 "\n", value);
+    memcpy(lent, hit, sizeof lent);
     printf("open: %" PRIu32 "\n", filz_open(lent, FILZ_WORDS, 3, 2, 1, 2, &value));
     printf("size of the genesis then: %" PRIu32, filz_size(lent, FILZ_WORDS, 0, &value));
     printf(" %" PRId64 "\n", value);

@@ -30,6 +30,7 @@ int main(void)
     const uint8_t yes[1] = {FILZ_YES};
     uint16_t none[1] = {0};
     uint8_t out[1] = {77};
+    const uint8_t file[1] = {0};
     if (filz_open(ws, FILZ_WORDS, 1, 1, 1, 2, &value) != FILZ_TAKEN
         || filz_book(ws, FILZ_WORDS, 1, 7, genesis, 1, &value) != FILZ_TAKEN) {
         fprintf(stderr, "the ledger could not be made\n");
@@ -48,11 +49,13 @@ int main(void)
     expect(__LINE__, filz_confidence(NULL, 0, 1, &value), FILZ_WRONG_LENGTH);
     expect(__LINE__, filz_size(NULL, 0, 1, &value), FILZ_WRONG_LENGTH);
     expect(__LINE__, filz_write_first(NULL, 0, out, 1, &value), FILZ_WRONG_LENGTH);
+    expect(__LINE__, filz_read_first(NULL, 0, file, 1, &value), FILZ_WRONG_LENGTH);
 
     /* neither words nor parents nor votes nor bytes */
     expect(__LINE__, filz_book(NULL, 0, 2, 7, NULL, 0, &value), FILZ_WRONG_LENGTH);
     expect(__LINE__, filz_poll(NULL, 0, 1, NULL, 0, &value), FILZ_WRONG_LENGTH);
     expect(__LINE__, filz_write_first(NULL, 0, NULL, 0, &value), FILZ_WRONG_LENGTH);
+    expect(__LINE__, filz_read_first(NULL, 0, NULL, 0, &value), FILZ_WRONG_LENGTH);
 
     /* no parents, no votes, no bytes; and the same with a pointer */
     expect(__LINE__, filz_book(ws, FILZ_WORDS, 2, 7, NULL, 0, &value), FILZ_BAD_PARENTS);
@@ -61,8 +64,11 @@ int main(void)
     expect(__LINE__, filz_poll(ws, FILZ_WORDS, 1, yes, 0, &value), FILZ_WRONG_VOTES);
     expect(__LINE__, filz_write_first(ws, FILZ_WORDS, NULL, 0, &value), FILZ_SHORT_BUFFER);
     expect(__LINE__, filz_write_first(ws, FILZ_WORDS, out, 0, &value), FILZ_SHORT_BUFFER);
+    expect(__LINE__, filz_read_first(ws, FILZ_WORDS, NULL, 0, &value), FILZ_BAD_FILE);
+    expect(__LINE__, filz_read_first(ws, FILZ_WORDS, file, 0, &value), FILZ_BAD_FILE);
     expect(__LINE__, filz_open(none, 0, 1, 1, 1, 2, &value), FILZ_WRONG_LENGTH);
     expect(__LINE__, filz_write_first(none, 0, out, 0, &value), FILZ_WRONG_LENGTH);
+    expect(__LINE__, filz_read_first(none, 0, file, 0, &value), FILZ_WRONG_LENGTH);
 
     /* an earlier refusal comes first */
     expect(__LINE__, filz_book(ws, FILZ_WORDS, 1, 7, NULL, 0, &value), FILZ_NAME_TAKEN);

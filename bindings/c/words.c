@@ -1,6 +1,7 @@
 /*
- * Where each word stands: after the run below, after its day file was written and after refused calls, every word of the
- * workspace is the one worked out by hand, at the place that the header names. Prints nothing and ends with 0 if that is so.
+ * Where each word stands: after the run below, after its day file was written, after refused calls and after that file was read
+ * into other words, every word of the workspace is the one worked out by hand, at the place that the header names. Prints
+ * nothing and ends with 0 if that is so.
  */
 #include "filzhammer.h"
 
@@ -9,6 +10,10 @@
 /* The words that the calls write, and those expected. */
 static uint16_t ws[FILZ_WORDS];
 static uint16_t expected[FILZ_WORDS];
+
+/* The day file of the run, and how long it is: day_file.txt shows its bytes. */
+#define FILE_BYTES 88
+static uint8_t file[FILZ_FILE_MOST];
 
 static void expect_header(uint16_t n, uint16_t k, uint16_t a, uint16_t beta1, uint16_t beta2, uint16_t p)
 {
@@ -64,12 +69,32 @@ static uint32_t run(void)
     return sum;
 }
 
-/* The day file, written: 0 if that is taken, with the 88 bytes that day_file.txt shows. */
+/* The day file, written: 0 if that is taken, with its bytes. */
 static int written(void)
 {
-    static uint8_t file[FILZ_FILE_MOST];
     int64_t value = 77;
-    return filz_write_first(ws, FILZ_WORDS, file, sizeof file, &value) != FILZ_TAKEN || value != 88;
+    return filz_write_first(ws, FILZ_WORDS, file, sizeof file, &value) != FILZ_TAKEN || value != FILE_BYTES;
+}
+
+/* The same file, read into words of which none is as it was: 0 if that is taken, with value 0. */
+static int read_again(void)
+{
+    int64_t value = 77;
+    for (size_t place = 0; place < FILZ_WORDS; place++)
+        ws[place] ^= 21845;
+    return filz_read_first(ws, FILZ_WORDS, file, FILE_BYTES, &value) != FILZ_TAKEN || value != 0;
+}
+
+/* Is every word the one worked out? */
+static int is_expected(void)
+{
+    for (size_t place = 0; place < FILZ_WORDS; place++) {
+        if (ws[place] != expected[place]) {
+            fprintf(stderr, "word %zu is %u, expected %u\n", place, (unsigned)ws[place], (unsigned)expected[place]);
+            return 0;
+        }
+    }
+    return 1;
 }
 
 /* A refused call of each kind, none of which may change a word: 0 if their numbers are right and their values 0. */
@@ -77,13 +102,14 @@ static int refused(void)
 {
     const uint64_t unknown[1] = {9};
     const uint8_t votes[3] = {FILZ_YES, FILZ_YES, FILZ_YES};
-    uint8_t file[87];
-    int64_t open_value = 77, book_value = 77, poll_value = 77, lead_value = 77, write_value = 77;
+    uint8_t out[FILE_BYTES - 1];
+    int64_t open_value = 77, book_value = 77, poll_value = 77, lead_value = 77, write_value = 77, read_value = 77;
     return filz_open(ws, FILZ_WORDS, 2, 1, 1, 2, &open_value) != FILZ_BAD_SETTING || open_value != 0
         || filz_book(ws, FILZ_WORDS, 5, 9, unknown, 1, &book_value) != FILZ_UNKNOWN_PARENT || book_value != 0
         || filz_poll(ws, FILZ_WORDS, 1, votes, 3, &poll_value) != FILZ_NOT_WAITING || poll_value != 0
         || filz_lead(ws, FILZ_WORDS, 9, &lead_value) != FILZ_UNKNOWN_NAME || lead_value != 0
-        || filz_write_first(ws, FILZ_WORDS, file, sizeof file, &write_value) != FILZ_SHORT_BUFFER || write_value != 0;
+        || filz_write_first(ws, FILZ_WORDS, out, sizeof out, &write_value) != FILZ_SHORT_BUFFER || write_value != 0
+        || filz_read_first(ws, FILZ_WORDS, file, FILE_BYTES - 1, &read_value) != FILZ_BAD_FILE || read_value != 0;
 }
 
 int main(void)
@@ -113,11 +139,11 @@ int main(void)
         fprintf(stderr, "a refused call has another number or value\n");
         return 1;
     }
-    for (size_t place = 0; place < FILZ_WORDS; place++) {
-        if (ws[place] != expected[place]) {
-            fprintf(stderr, "word %zu is %u, expected %u\n", place, (unsigned)ws[place], (unsigned)expected[place]);
-            return 1;
-        }
+    if (!is_expected())
+        return 1;
+    if (read_again() != 0) {
+        fprintf(stderr, "the day file was not read\n");
+        return 1;
     }
-    return 0;
+    return is_expected() ? 0 : 1;
 }

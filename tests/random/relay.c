@@ -2,8 +2,9 @@
  * Makes calls of the C face for whoever asks through a pipe: for a caller that cannot link the library, because it is
  * compiled for another machine than x86-64.
  *
- * A request is a struct asked, the words, the parents or the votes, and the bytes of a buffer to be written; the answer is a
- * struct told, and the words and the buffer as the call left them. Both sides have the lowest byte first. Ends with the input.
+ * A request is a struct asked, the words, the parents or the votes, and the bytes of a buffer for a file or of a file to be
+ * read; the answer is a struct told, and the words and those bytes as the call left them. Both sides have the lowest byte
+ * first. Ends with the input.
  */
 #include "filzhammer.h"
 
@@ -11,14 +12,14 @@
 #include <stdlib.h>
 
 /* The calls, in the order of the header. */
-enum kind { OPEN, BOOK, POLL, QUERY, ACCEPTED, LEAD, CONFIDENCE, SIZE, WRITE_FIRST };
+enum kind { OPEN, BOOK, POLL, QUERY, ACCEPTED, LEAD, CONFIDENCE, SIZE, WRITE_FIRST, READ_FIRST };
 
 struct asked {
     uint64_t kind;
     uint64_t words;
     uint64_t name;
     uint64_t count;      /* of parents or votes */
-    uint64_t room;       /* bytes of the buffer */
+    uint64_t room;       /* bytes of the buffer or the file */
     uint16_t numbers[4]; /* the slot, or the setting */
 };
 
@@ -125,6 +126,8 @@ static uint32_t call(const struct asked *asked, uint16_t *ws, const void *list, 
         return filz_size(ws, words, name, value);
     case WRITE_FIRST:
         return filz_write_first(ws, words, out, asked->room, value);
+    case READ_FIRST:
+        return filz_read_first(ws, words, out, asked->room, value);
     }
     give_up("no such call");
     return 0;

@@ -45,6 +45,13 @@ extern "C" {
         bytes: usize,
         value: *mut i64,
     ) -> u32;
+    fn filz_read_first(
+        ws: *mut u16,
+        words: usize,
+        file: *const u8,
+        bytes: usize,
+        value: *mut i64,
+    ) -> u32;
 }
 
 /// A call that writes its value through the pointer: the value if it is taken, else the refusal.
@@ -120,5 +127,12 @@ pub fn write_first(ws: &[u16], out: &mut [u8]) -> Result<i64, Refusal> {
     // SAFETY: see the top of this file.
     ask(|value| unsafe {
         filz_write_first(ws.as_ptr(), ws.len(), out.as_mut_ptr(), out.len(), value)
+    })
+}
+
+pub fn read_first(ws: &mut [u16], file: &[u8]) -> Result<i64, Refusal> {
+    // SAFETY: see the top of this file.
+    ask(|value| unsafe {
+        filz_read_first(ws.as_mut_ptr(), ws.len(), file.as_ptr(), file.len(), value)
     })
 }

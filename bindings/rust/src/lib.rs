@@ -2,7 +2,7 @@
 //!
 //! A caller lends [`WORDS`] words of 16 bits. [`open`] makes them a ledger, [`book`] enters a booking, [`poll`] enters the
 //! votes of a completed poll, and the readings [`query`], [`accepted`], [`lead`], [`confidence`] and [`size`] answer by name.
-//! [`write_first`] writes the ledger as a file, into bytes that are lent too.
+//! [`write_first`] writes the ledger as a file, into bytes that are lent too, and [`read_first`] makes a ledger of such a file.
 //! Nothing is allocated and nothing is kept outside the lent words: copy them, store them, or have as many ledgers as you like.
 //!
 //! ```
@@ -32,9 +32,10 @@
 //!    everything reached through parents, each once), when a poll succeeds and what it writes, what a query answers,
 //!    when a booking is accepted, and each byte of a day file. For the same words and arguments there is one possible outcome, and it is this one. Of the
 //!    bookings of a slot never more than one is accepted at a time.
-//! 3. **Confidence is earned.** Over every run since the last taken opening, whatever calls came in whatever order: a booking's
-//!    confidence is the number of successful polls of bookings that have it in their ancestry; all confidences together are the
-//!    sum of those ancestries' sizes; and no booking has more confidence than the preferred one of its slot.
+//! 3. **Confidence is earned.** Over every run since the last taken opening or reading of a day file, whatever calls came in
+//!    whatever order: a booking's confidence is the number of successful polls of bookings that have it in their ancestry, those
+//!    of the file among them; all confidences together are the sum of those ancestries' sizes; and no booking has more
+//!    confidence than the preferred one of its slot.
 //!
 //! What the proofs do not cover is this crate's own few lines, which pass slices on and turn numbers into [`Refusal`]; they are
 //! tested. And a ledger is as good as its words: while another program can write there, soundness is tested again at every call,
@@ -42,7 +43,7 @@
 //!
 //! # Damage
 //!
-//! Every call but [`open`] first tests all words. [`DamagedHeader`](Refusal::DamagedHeader) says that the header breaks a rule,
+//! Every call but [`open`] and [`read_first`] first tests all words. [`DamagedHeader`](Refusal::DamagedHeader) says that the header breaks a rule,
 //! [`DamagedRecord`](Refusal::DamagedRecord) that the header is right and a record breaks one,
 //! [`DamagedSlot`](Refusal::DamagedSlot) that only slot entries do. The last two carry a row: the lowest record's number, or the
 //! lowest slot, that breaks a rule. That row doesn't fit the others; the word that was hit may stand elsewhere.
@@ -75,7 +76,7 @@
 //! # Ok::<(), Refusal>(())
 //! ```
 //!
-//! A refused call has changed nothing, so the words can still be looked at. Put a good copy back, or open anew.
+//! A refused call has changed nothing, so the words can still be looked at. Put a good copy back, read a day file, or open anew.
 //!
 //! # The day file
 //!
@@ -116,6 +117,30 @@
 //!
 //! Confidences, preferences and single votes are not in it: they follow from the bookings and the outcomes, or no longer
 //! matter. `docs/DAYFILE.md` of the repository explains a file byte by byte.
+//!
+//! [`read_first`] is the way back: the neighbour's words become the ledger that the file tells of, and the day goes on there.
+//!
+//! ```
+//! use filzhammer::{book, confidence, open, poll, read_first, write_first, Refusal, Setting, FILE_MOST, WORDS, YES};
+//!
+//! let mut ours = [0u16; WORDS];
+//! open(&mut ours, Setting { k: 1, a: 1, beta1: 1, beta2: 2 })?;
+//! book(&mut ours, 1, 7, &[0])?;
+//! book(&mut ours, 2, 8, &[1])?;
+//! poll(&mut ours, 2, &[YES])?;
+//! let mut file = [0u8; FILE_MOST];
+//! let length = write_first(&ours, &mut file)?;
+//!
+//! let mut theirs = [9u16; WORDS]; // any words will do
+//! read_first(&mut theirs, &file[..length])?;
+//! assert_eq!(confidence(&theirs, 1), Ok(1)); // earned by the poll of 2, which is in the file
+//! poll(&mut theirs, 1, &[YES])?;
+//! assert_eq!(poll(&mut theirs, 2, &[YES]), Err(Refusal::NotWaiting)); // it was polled before the handover
+//!
+//! assert_eq!(read_first(&mut theirs, &file[..length - 1]), Err(Refusal::BadFile)); // cut off: the ledger stays
+//! assert_eq!(confidence(&theirs, 1), Ok(2));
+//! # Ok::<(), Refusal>(())
+//! ```
 #![no_std]
 #![warn(missing_docs)]
 
@@ -243,4 +268,19 @@ pub fn size(ws: &[u16], name: u64) -> Result<i64, Refusal> {
 pub fn write_first(ws: &[u16], out: &mut [u8]) -> Result<usize, Refusal> {
     // A length of at most FILE_MOST.
     face::write_first(ws, out).map(|length| length as usize)
+}
+
+/// Reads a day file, in its first form, and makes the words the ledger that it tells of, whatever they held before: the one
+/// that an opening with its setting, its bookings in their order and then its polls with their outcomes make.
+/// [`write_first`] then gives the same bytes. If it is refused, every word stays.
+///
+/// A file is good if [`write_first`] could have written it after calls that were taken. It begins with 4 and a good
+/// [`Setting`]. It has at most 511 bookings, each with a name that is not 0 and that no earlier one has, a slot from 1 to 255,
+/// and one to four parents, all of them lower numbers than its own and none twice. Each poll is of a booking other than the
+/// genesis, which no earlier poll is of, and its outcome is 0 or 1. No byte is missing, and none follows: lend as many bytes as
+/// the file has, and not the rest of a buffer.
+///
+/// Refuses [`WrongLength`](Refusal::WrongLength), [`BadFile`](Refusal::BadFile), in this order.
+pub fn read_first(ws: &mut [u16], file: &[u8]) -> Result<(), Refusal> {
+    face::read_first(ws, file).map(drop)
 }

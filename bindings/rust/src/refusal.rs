@@ -44,6 +44,8 @@ pub enum Refusal {
     DamagedSlot(u16),
     /// The buffer is shorter than the file. [`FILE_MOST`](crate::FILE_MOST) bytes are enough for any.
     ShortBuffer,
+    /// The file isn't [good](crate::read_first): no ledger that calls could have made has it.
+    BadFile,
 }
 
 impl Refusal {
@@ -66,6 +68,7 @@ impl Refusal {
             Refusal::DamagedRecord(_) => 14,
             Refusal::DamagedSlot(_) => 15,
             Refusal::ShortBuffer => 16,
+            Refusal::BadFile => 17,
         }
     }
 
@@ -110,6 +113,7 @@ impl Refusal {
             (14, 0..=512) => Refusal::DamagedRecord(row),
             (15, 0..=255) => Refusal::DamagedSlot(row),
             (16, 0) => Refusal::ShortBuffer,
+            (17, 0) => Refusal::BadFile,
             _ => return None,
         })
     }
@@ -132,6 +136,7 @@ impl fmt::Display for Refusal {
             Refusal::WrongVotes => "the number of votes is not that of the setting",
             Refusal::BadVote => "a vote is neither yes, no nor silent",
             Refusal::ShortBuffer => "the buffer is shorter than the file",
+            Refusal::BadFile => "the day file is not good",
             Refusal::DamagedRecord(512) => "an ordinal is missing in a full ledger (record 512)",
             Refusal::DamagedRecord(record) => {
                 return write!(f, "record {record} breaks a rule, and none below it")

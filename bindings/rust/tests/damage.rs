@@ -2,15 +2,11 @@
 //! out by hand from the words of `ledger`.
 use filzhammer::*;
 
+mod listed;
 mod refused;
+use listed::*;
 use refused::*;
 
-const SETTING: Setting = Setting {
-    k: 3,
-    a: 2,
-    beta1: 1,
-    beta2: 2,
-};
 const NONE: u16 = 65535;
 
 /// Five bookings, of which 1 waits, 2 and 4 have a chit, and 3 lost its poll: n is 5, p is 3, and there are 2 chits.
@@ -30,16 +26,7 @@ const NONE: u16 = 65535;
 /// | 9 | 6188 | 3 | 3 | 0 | 1 |
 /// | 10 | 6192 | 4 | 4 | 1 | 1 |
 fn ledger() -> [u16; WORDS] {
-    let mut ws = [0; WORDS];
-    open(&mut ws, SETTING).unwrap();
-    book(&mut ws, 1, 7, &[0]).unwrap();
-    book(&mut ws, 2, 7, &[0]).unwrap();
-    book(&mut ws, 3, 9, &[1]).unwrap();
-    book(&mut ws, 4, 10, &[1, 2]).unwrap();
-    poll(&mut ws, 2, &[YES, YES, NO]).unwrap();
-    poll(&mut ws, 3, &[YES, SILENT, SILENT]).unwrap();
-    poll(&mut ws, 4, &[YES, YES, YES]).unwrap();
-    ws
+    listed(3)
 }
 
 /// 512 bookings, the names 1 to 511 all in slot 7; 1 alone was polled, and lost.

@@ -1,32 +1,12 @@
 //! The day file: every byte worked out by hand, its length, what stays, and refusal 16 in its order.
 use filzhammer::*;
 
+mod listed;
 mod refused;
+use listed::*;
 use refused::*;
 
-const SETTING: Setting = Setting {
-    k: 3,
-    a: 2,
-    beta1: 1,
-    beta2: 2,
-};
-
-/// The ledger of the example in `README.md`: its numbers are its names.
-fn listed() -> [u16; WORDS] {
-    let mut ws = [0; WORDS];
-    open(&mut ws, SETTING).unwrap();
-    book(&mut ws, 1, 7, &[0]).unwrap();
-    book(&mut ws, 2, 7, &[0]).unwrap();
-    book(&mut ws, 3, 9, &[1]).unwrap();
-    book(&mut ws, 4, 10, &[1, 2]).unwrap();
-    poll(&mut ws, 2, &[YES, YES, NO]).unwrap();
-    poll(&mut ws, 3, &[YES, SILENT, SILENT]).unwrap();
-    poll(&mut ws, 4, &[YES, YES, YES]).unwrap();
-    poll(&mut ws, 1, &[YES, YES, SILENT]).unwrap();
-    ws
-}
-
-/// Its file: 14 bytes, 12 for each of four bookings, 2 for each of five parents, 4 for each of four polls.
+/// The file of the example: 14 bytes, 12 for each of four bookings, 2 for each of five parents, 4 for each of four polls.
 const LISTED: [u8; 88] = [
     0, 4, 0, 3, 0, 2, 0, 1, 0, 2, // four numbers: k, a, beta1, beta2
     0, 4, // four bookings
@@ -69,7 +49,7 @@ fn writes(ws: &mut [u16], file: &[u8]) {
 
 #[test]
 fn the_file_of_the_examples_ledger() {
-    writes(&mut listed(), &LISTED);
+    writes(&mut listed(4), &LISTED);
 }
 
 #[test]
@@ -214,13 +194,13 @@ fn other_votes_and_another_order_give_the_same_file() {
     book(&mut ws, 4, 10, &[1, 2]).unwrap();
     poll(&mut ws, 4, &[SILENT, YES, YES]).unwrap();
     poll(&mut ws, 1, &[YES, NO, YES]).unwrap();
-    assert_eq!(ws, listed());
+    assert_eq!(ws, listed(4));
     writes(&mut ws, &LISTED);
 }
 
 #[test]
 fn confidences_and_slot_entries_are_not_in_the_file() {
-    let mut ws = listed();
+    let mut ws = listed(4);
     for (place, word) in [
         (8 + 12 + 10, 3),       // the confidence of booking 1, within the three chits
         (6152 + 4 * 7, 1),      // the preferred booking of slot 7
@@ -237,7 +217,7 @@ fn confidences_and_slot_entries_are_not_in_the_file() {
 
 #[test]
 fn every_shorter_buffer_is_refused() {
-    let mut ws = listed();
+    let mut ws = listed(4);
     for bytes in 0..LISTED.len() {
         write_refused(Refusal::ShortBuffer, &mut ws, bytes);
     }
@@ -251,10 +231,10 @@ fn every_shorter_buffer_is_refused() {
 /// Each is told in an empty buffer, in one too short for any file, and in one with room for every file: see `all_refused`.
 #[test]
 fn the_length_and_damage_come_first() {
-    for ws in [&mut listed()[..WORDS - 1], &mut [0; WORDS + 1], &mut []] {
+    for ws in [&mut listed(4)[..WORDS - 1], &mut [0; WORDS + 1], &mut []] {
         all_refused(Refusal::WrongLength, ws);
     }
-    let mut ws = listed();
+    let mut ws = listed(4);
     ws[6152 + 4 * 7 + 3] = 3; // slot 7 has two bookings
     all_refused(Refusal::DamagedSlot(7), &mut ws);
     ws[8 + 12 * 3 + 4] = 0; // booking 3 in the slot of the genesis
@@ -267,7 +247,7 @@ fn the_length_and_damage_come_first() {
 /// A refused call leaves a ledger of which the file can still be written.
 #[test]
 fn after_a_refusal_a_longer_buffer_is_taken() {
-    let mut ws = listed();
+    let mut ws = listed(4);
     let mut room = [9; LISTED.len()];
     let (front, _) = room.split_at_mut(LISTED.len() - 1);
     assert_eq!(write_first(&ws, front), Err(Refusal::ShortBuffer));

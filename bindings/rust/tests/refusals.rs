@@ -1,5 +1,5 @@
-//! Each refusal on both sides of its border, in its order, with no word changed. Damage, 2, 14 and 15, has `damage.rs`, and 16
-//! has `day_file.rs`.
+//! Each refusal on both sides of its border, in its order, with no word changed. Damage, 2, 14 and 15, has `damage.rs`, 16 has
+//! `day_file.rs`, and 17 has `read_file.rs`.
 use filzhammer::*;
 
 mod refused;
@@ -23,7 +23,7 @@ fn ledger() -> [u16; WORDS] {
 }
 
 /// Each refusal once, the rows by their greatest.
-const EACH: [Refusal; 16] = [
+const EACH: [Refusal; 17] = [
     Refusal::WrongLength,
     Refusal::DamagedHeader,
     Refusal::BadSetting,
@@ -40,13 +40,14 @@ const EACH: [Refusal; 16] = [
     Refusal::DamagedRecord(512),
     Refusal::DamagedSlot(255),
     Refusal::ShortBuffer,
+    Refusal::BadFile,
 ];
 
 #[test]
-fn the_numbers_are_1_to_16() {
+fn the_numbers_are_1_to_17() {
     assert_eq!(
         EACH.map(Refusal::number).to_vec(),
-        (1..=16).collect::<Vec<u32>>()
+        (1..=17).collect::<Vec<u32>>()
     );
     for refusal in EACH {
         assert!(!refusal.to_string().is_empty());
@@ -97,12 +98,12 @@ fn number_and_value_lead_back() {
             assert_eq!(Refusal::from_answer(number, value), None);
         }
     }
-    for number in (1..=13).chain([16]) {
+    for number in (1..=13).chain([16, 17]) {
         for value in [-1, 1, 65536] {
             assert_eq!(Refusal::from_answer(number, value), None);
         }
     }
-    for number in [0, 17, u32::MAX] {
+    for number in [0, 18, u32::MAX] {
         assert_eq!(Refusal::from_answer(number, 0), None);
     }
 }

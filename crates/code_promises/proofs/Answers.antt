@@ -22,6 +22,7 @@ use Rattle.terms.specs.declared.answer.Refusal.the-variants.{
   DamagedRecord,
   DamagedSlot,
   ShortBuffer,
+  BadFile,
 }
 use Rattle.terms.specs.declared.answer.Answer.the-variants.{Taken, Refused}
 use Rattle.terms.specs.Answers.{number, value}
@@ -48,6 +49,7 @@ refusals row =
     ∷ DamagedRecord row
     ∷ DamagedSlot row
     ∷ ShortBuffer
+    ∷ BadFile
     ∷ []
 
 abbrev refusalAt : ℕ → ℤ → Refusal
@@ -70,6 +72,7 @@ found-again BadVote = refl
 found-again (DamagedRecord row) = refl
 found-again (DamagedSlot row) = refl
 found-again ShortBuffer = refl
+found-again BadFile = refl
 
 pub answer-told : AnswerTold
 unfolding AnswerTold

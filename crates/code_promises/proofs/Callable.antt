@@ -11,8 +11,8 @@ use Rattle.terms.specs.declared.answer.Reading.the-variants.{Query, Accepted, L
 use Rattle.terms.specs.declared.answer.Answer.{Answer}
 use Rattle.terms.specs.Answers.{Outcome, handover, number, value}
 use Rattle.rules.specs.Calls.{openCall, bookCall, pollCall, queryCall, acceptedCall, leadCall, confidenceCall, sizeCall}
-use Rattle.day_file.specs.Calls.{writeFirstCall}
-use Rattle.promises.specs.Run.{Open, Book, Poll, Ask, WriteFirst}
+use Rattle.day_file.specs.Calls.{writeFirstCall, readFirstCall}
+use Rattle.promises.specs.Run.{Open, Book, Poll, Ask, WriteFirst, ReadFirst}
 use Rattle.promises.proofs.Taken.{write-words}
 use Rattle.station.specs.Returned.{Returned, Handed}
 use Rattle.code_promises.specs.Contract.{contractOf, Allowed, endedBy}
@@ -22,10 +22,12 @@ use Rattle.code_promises.proofs.Functions.{
   by-book,
   by-poll,
   by-write-first,
+  by-read-first,
   by-filz-open,
   by-filz-book,
   by-filz-poll,
   by-filz-write-first,
+  by-filz-read-first,
   function,
   of-ledger,
   of-station,
@@ -100,6 +102,15 @@ write-first-callable buffer w =
       words = refl;
     }
 
+read-first-callable : (file w : List ℕ) → Makes function by-read-first (ReadFirst file) w
+read-first-callable file w =
+    let o = readFirstCall w file in
+    record {
+      allowed = record { at = ([], ([], tt)); given = (lent w, (lent file, tt)); returned = o .answer; last = (o .words, (tt, tt)); learnt = refl };
+      asks = refl;
+      words = refl;
+    }
+
 -- a reading with an answer that its contract allows
 abbrev read : {Asked : In 1 code.query.Kinds.ps} {Learnt : Out 1 code.query.Kinds.ps code.query.Kinds.r} →
     let f = contractOf 1 code.query.Kinds.ps code.query.Kinds.r Asked Learnt in
@@ -118,6 +129,7 @@ ledger-callable (Ask Lead name) w = record { allowed = read name w (leadCall w n
 ledger-callable (Ask Confidence name) w = record { allowed = read name w (confidenceCall w name) refl; asks = refl; words = refl }
 ledger-callable (Ask Size name) w = record { allowed = read name w (sizeCall w name) refl; asks = refl; words = refl }
 ledger-callable (WriteFirst buffer) w = write-first-callable buffer w
+ledger-callable (ReadFirst file) w = read-first-callable file w
 
 -- ---- the C face's functions
 
@@ -181,6 +193,21 @@ filz-write-first-callable buffer w =
       words = refl;
     }
 
+filz-read-first-callable : (file w : List ℕ) → Makes function by-filz-read-first (ReadFirst file) w
+filz-read-first-callable file w =
+    let o = readFirstCall w file in
+    record {
+      allowed = record {
+        at = ([], ([], ([], tt)));
+        given = (lent w, (lent file, (lent (pos 0), tt)));
+        returned = number (o .answer);
+        last = (o .words, (tt, (value (o .answer), tt)));
+        learnt = handed o;
+      };
+      asks = refl;
+      words = refl;
+    }
+
 abbrev filz-read : {Asked : In 2 code.filz_query.Kinds.ps} {Learnt : Out 2 code.filz_query.Kinds.ps code.filz_query.Kinds.r} →
     let f = contractOf 2 code.filz_query.Kinds.ps code.filz_query.Kinds.r Asked Learnt in
     (name : ℕ) (w : List ℕ) (r : Answer) →
@@ -201,3 +228,4 @@ station-callable (Ask Lead name) w = let r = leadCall w name in record { allowed
 station-callable (Ask Confidence name) w = let r = confidenceCall w name in record { allowed = filz-read name w r (own r); asks = refl; words = refl }
 station-callable (Ask Size name) w = let r = sizeCall w name in record { allowed = filz-read name w r (own r); asks = refl; words = refl }
 station-callable (WriteFirst buffer) w = filz-write-first-callable buffer w
+station-callable (ReadFirst file) w = filz-read-first-callable file w

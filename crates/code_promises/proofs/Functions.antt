@@ -1,4 +1,4 @@
--- The public functions: the ledger's nine and the C face's nine. Each by its own contract, which src/lib.rt passes on, and by what its
+-- The public functions: the ledger's ten and the C face's ten. Each by its own contract, which src/lib.rt passes on, and by what its
 -- parameters mean.
 use Prim.Native.Nat.{ℕ}
 use mathlib.Core.List.{List, []}
@@ -8,7 +8,7 @@ use borrow.Fn.Kinds.{In, Out}
 use Rattle.terms.specs.declared.answer.Reading.the-variants.{Query, Accepted, Lead, Confidence, Size}
 use Rattle.terms.specs.declared.answer.Answer.{Answer}
 use Rattle.terms.specs.Answers.{number, value}
-use Rattle.promises.specs.Run.{Call, Open, Book, Poll, Ask, WriteFirst}
+use Rattle.promises.specs.Run.{Call, Open, Book, Poll, Ask, WriteFirst, ReadFirst}
 use Rattle.terms.specs.Setting.{settingOf}
 use Rattle.code_promises.specs.Contract.{contractOf, left}
 use Rattle.code_promises.specs.OfCode.{Done, Function}
@@ -24,6 +24,7 @@ pub data Name : Type 0 where
   by-confidence : Name
   by-size : Name
   by-write-first : Name
+  by-read-first : Name
   by-filz-open : Name
   by-filz-book : Name
   by-filz-poll : Name
@@ -33,6 +34,7 @@ pub data Name : Type 0 where
   by-filz-confidence : Name
   by-filz-size : Name
   by-filz-write-first : Name
+  by-filz-read-first : Name
 
 -- a call that was lent a buffer besides the words, and left these bytes in it
 abbrev leaving : Done → (bytes : List ℕ) → Done
@@ -87,6 +89,10 @@ function by-write-first = record {
       (answered (WriteFirst (now (m .given .1 .0))) (now (m .given .0)) (m .returned) (now (left m .0)))
       (now (left m .1 .0));
 }
+function by-read-first = record {
+  contract = contractOf 2 code.read_first.Kinds.ps code.read_first.Kinds.r code.read_first.Reads.Asked code.read_first.Reads.Learnt;
+  done = λ m. answered (ReadFirst (now (m .given .1 .0))) (now (m .given .0)) (m .returned) (now (left m .0));
+}
 function by-filz-open = record {
   contract = contractOf 2 code.filz_open.Kinds.ps code.filz_open.Kinds.r code.filz_open.Reads.Asked code.filz_open.Reads.Learnt;
   done = λ m. told
@@ -116,6 +122,10 @@ function by-filz-write-first = record {
       (told (WriteFirst (now (m .given .1 .0))) (now (m .given .0)) (m .returned) (now (left m .1 .1 .0)) (now (left m .0)))
       (now (left m .1 .0));
 }
+function by-filz-read-first = record {
+  contract = contractOf 3 code.filz_read_first.Kinds.ps code.filz_read_first.Kinds.r code.filz_read_first.Reads.Asked code.filz_read_first.Reads.Learnt;
+  done = λ m. told (ReadFirst (now (m .given .1 .0))) (now (m .given .0)) (m .returned) (now (left m .1 .1 .0)) (now (left m .0));
+}
 
 -- ---- the function that each face has for a call
 
@@ -129,6 +139,7 @@ of-ledger (Ask Lead name) = by-lead
 of-ledger (Ask Confidence name) = by-confidence
 of-ledger (Ask Size name) = by-size
 of-ledger (WriteFirst buffer) = by-write-first
+of-ledger (ReadFirst file) = by-read-first
 
 abbrev pub of-station : Call → Name
 of-station (Open s) = by-filz-open
@@ -140,3 +151,4 @@ of-station (Ask Lead name) = by-filz-lead
 of-station (Ask Confidence name) = by-filz-confidence
 of-station (Ask Size name) = by-filz-size
 of-station (WriteFirst buffer) = by-filz-write-first
+of-station (ReadFirst file) = by-filz-read-first

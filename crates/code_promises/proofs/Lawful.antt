@@ -21,6 +21,7 @@ use Rattle.code_promises.proofs.Functions.{
   by-confidence,
   by-size,
   by-write-first,
+  by-read-first,
   by-filz-open,
   by-filz-book,
   by-filz-poll,
@@ -30,6 +31,7 @@ use Rattle.code_promises.proofs.Functions.{
   by-filz-confidence,
   by-filz-size,
   by-filz-write-first,
+  by-filz-read-first,
   function,
 }
 
@@ -89,6 +91,10 @@ write-first-lawful : Lawful (function by-write-first)
 unfolding outcomeOf lentAfter
 write-first-lawful = record { asks = λ at given. tt; gives = λ m. over (handed-of (m .learnt) (record { numbered = refl; valued = refl })) }
 
+read-first-lawful : Lawful (function by-read-first)
+unfolding outcomeOf lentAfter
+read-first-lawful = record { asks = λ at given. tt; gives = λ m. (answers (m .learnt), refl) }
+
 -- ---- the C face's functions
 
 filz-open-lawful : Lawful (function by-filz-open)
@@ -127,6 +133,10 @@ filz-write-first-lawful : Lawful (function by-filz-write-first)
 unfolding outcomeOf lentAfter
 filz-write-first-lawful = record { asks = λ at given. tt; gives = λ m. over (m .learnt) }
 
+filz-read-first-lawful : Lawful (function by-filz-read-first)
+unfolding outcomeOf lentAfter
+filz-read-first-lawful = record { asks = λ at given. tt; gives = λ m. (m .learnt, refl) }
+
 -- ---- all of them
 
 lawful : (f : Name) → Lawful (function f)
@@ -139,6 +149,7 @@ lawful by-lead = lead-lawful
 lawful by-confidence = confidence-lawful
 lawful by-size = size-lawful
 lawful by-write-first = write-first-lawful
+lawful by-read-first = read-first-lawful
 lawful by-filz-open = filz-open-lawful
 lawful by-filz-book = filz-book-lawful
 lawful by-filz-poll = filz-poll-lawful
@@ -148,6 +159,7 @@ lawful by-filz-lead = filz-lead-lawful
 lawful by-filz-confidence = filz-confidence-lawful
 lawful by-filz-size = filz-size-lawful
 lawful by-filz-write-first = filz-write-first-lawful
+lawful by-filz-read-first = filz-read-first-lawful
 
 pub nothing-asked : NothingAsked function
 unfolding NothingAsked

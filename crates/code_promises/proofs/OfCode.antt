@@ -6,22 +6,28 @@ use Prim.Native.Nat.{ℕ}
 use lib.IntN.{pos}
 use Rattle.terms.specs.declared.answer.Answer.{Answer}
 use Rattle.terms.specs.declared.answer.Answer.the-variants.{Taken, Refused}
-use Rattle.terms.specs.Answers.{Outcome, number, value}
+use Rattle.terms.specs.Answers.{Outcome, number, value, isTaken}
 use Rattle.rules.specs.Layout.{nameOf}
-use Rattle.rules.specs.Calls.{openCall, acceptedCall}
+use Rattle.rules.specs.Sound.{Ledger}
+use Rattle.rules.specs.Calls.{acceptedCall}
 use Rattle.rule_laws.proofs.Calls.{number-refused}
 use Rattle.day_file.specs.Bytes.{dayFile}
-use Rattle.day_file.specs.Calls.{writeFirstCall}
-use Rattle.promises.specs.Run.{Call, Open, Book, Poll, Ask, WriteFirst, outcomeOf, lentAfter, isTaken, History, fresh, historyAfter}
+use Rattle.day_file.specs.Calls.{writeFirstCall, readFirstCall}
+use Rattle.promises.specs.Run.{Call, Open, Book, Poll, Ask, WriteFirst, ReadFirst, outcomeOf, lentAfter, History, fresh, historyAfter}
 use Rattle.promises.specs.Acceptance.{AcceptedOnce, AcceptedCallOnce}
 use Rattle.promises.specs.Damage.{NamesDamage}
 use Rattle.promises.specs.Refusals.{RefusedKeeps}
 use Rattle.promises.specs.DayFile.{Written, FileWritten}
+use Rattle.promises.specs.ReadFile.{FileOfRead}
+use Rattle.promises.specs.Soundness.{OpenedSound}
 use Rattle.promises.proofs.Acceptance.{accepted-once, accepted-call-once}
 use Rattle.promises.proofs.Refusals.{refused-keeps, refused-listed}
 use Rattle.promises.proofs.Damage.{damage-named}
 use Rattle.promises.proofs.DayFile.{file-written}
-use Rattle.promises.proofs.Run.{Right, opening-right, step-right}
+use Rattle.promises.proofs.ReadFile.{file-of-read}
+use Rattle.promises.proofs.Kept.{opened-sound}
+use Rattle.promises.proofs.Ranges.{ranges}
+use Rattle.promises.proofs.Run.{Right, made-right, step-right}
 use Rattle.station.specs.Returned.{Handed}
 use Rattle.code_promises.specs.OfCode.{
   Done,
@@ -34,6 +40,7 @@ use Rattle.code_promises.specs.OfCode.{
   CodeRefuses,
   CodeNamesDamage,
   CodeWrites,
+  CodeReads,
   Accepts,
   CodeAcceptsOnce,
   Ran,
@@ -79,6 +86,7 @@ listed (Book name slot parents) w = refused-listed .booking w name slot parents
 listed (Poll name votes) w = refused-listed .polling w name votes
 listed (Ask what name) w = refused-listed .reading what w name
 listed (WriteFirst buffer) w = refused-listed .writing w buffer
+listed (ReadFirst file) w = refused-listed .readingFile w file
 
 pub code-listed : CodeListed function
 unfolding CodeListed
@@ -103,6 +111,10 @@ code-names-damage d m =
 
 -- ---- the day file
 
+zero-taken : (r : Answer) → number r ≡ 0 → isTaken r ≡ true
+zero-taken (Taken v) e = refl
+zero-taken (Refused r) e = absurd (number-refused r e)
+
 pub code-writes : CodeWrites function
 unfolding CodeWrites FileWritten outcomeOf lentAfter
 code-writes d buffer m asks taken =
@@ -115,6 +127,19 @@ code-writes d buffer m asks taken =
       subst (λ v. Written (dayFile (d .before)) buffer v (d .lent)) (sym valued)
           (subst (Written (dayFile (d .before)) buffer (value (o .answer))) (sym lent) (written .0)),
       given .words ∙ ap (λ x. x .words) law ∙ written .1,
+    )
+
+pub code-reads : CodeReads function
+unfolding CodeReads FileOfRead OpenedSound outcomeOf
+code-reads d file m asks taken =
+    let law = due-is d asks refl in
+    let given = gave d m in
+    let numbered : number (readFirstCall (d .before) file .answer) ≡ 0 = ap (λ o. number (o .answer)) (sym law) ∙ sym (given .told .numbered) ∙ taken in
+    let words : d .after ≡ readFirstCall (d .before) file .words = given .words ∙ ap (λ o. o .words) law in
+    let t = zero-taken (readFirstCall (d .before) file .answer) numbered in (
+      subst Ledger (sym words) (opened-sound (ReadFirst file) (d .before) refl t),
+      ap dayFile words ∙ file-of-read (d .before) file t,
+      given .told .valued ∙ ap (λ o. value (o .answer)) law ∙ ranges .readingFile (d .before) file numbered,
     )
 
 -- ---- demands 2 and 3
@@ -133,17 +158,11 @@ pub code-accepts-once : CodeAcceptsOnce function
 unfolding CodeAcceptsOnce AcceptedCallOnce
 code-accepts-once w i j hi hj same a b = accepted-call-once w i j hi hj same (answered-one w i a) (answered-one w j b)
 
-zero-taken : (r : Answer) → number r ≡ 0 → isTaken r ≡ true
-zero-taken (Taken v) e = refl
-zero-taken (Refused r) e = absurd (number-refused r e)
-
 ran-right : {w : List ℕ} {h : History} → Ran function w h → Right w h
 unfolding outcomeOf
-ran-right (opened d s m asks taken) =
-    let law = due-is d asks refl in
-    subst (λ x. Right x fresh) (sym (gave d m .words ∙ ap (λ o. o .words) law))
-    (opening-right (d .before) s
-    (zero-taken (openCall (d .before) s .answer) (ap (λ o. number (o .answer)) (sym law) ∙ sym (gave d m .told .numbered) ∙ taken)))
+ran-right (opened d m makes taken) =
+    subst (λ x. Right x (historyAfter (d .call) (d .before) fresh)) (sym (gave d m .words))
+    (made-right (d .call) (d .before) fresh makes (zero-taken (due d .answer) (sym (gave d m .told .numbered) ∙ taken)))
 ran-right (called d {h} m ran) =
     subst (λ x. Right x (historyAfter (d .call) (d .before) h)) (sym (gave d m .words)) (step-right (d .call) (d .before) h (ran-right ran))
 

@@ -6,7 +6,6 @@ use mathlib.Core.Logic.{_≢_}
 use Prim.Native.Nat.{ℕ, _<_, _≤_}
 use lib.IntN.{ℤ, pos}
 use Rattle.loops.specs.Total.{total}
-use Rattle.terms.specs.declared.setting.Setting.{Setting}
 use Rattle.terms.specs.declared.answer.Reading.the-variants.{Accepted}
 use Rattle.terms.specs.declared.answer.Answer.{Answer}
 use Rattle.terms.specs.Answers.{number, value}
@@ -14,8 +13,8 @@ use Rattle.rules.specs.Layout.{bookings, polls, slotOf, nameOf, confidenceOf, p
 use Rattle.rules.specs.Readings.{acceptedOf}
 use Rattle.rules.specs.Sound.{Ledger}
 use Rattle.day_file.specs.Bytes.{dayFile}
-use Rattle.promises.specs.Run.{Call, Open, Book, Poll, Ask, WriteFirst, outcomeOf, lentBy, lentAfter, History, fresh, historyAfter}
-use Rattle.promises.specs.Refusals.{OpenListed, BookListed, PollListed, ReadingListed, WriteListed}
+use Rattle.promises.specs.Run.{Call, Open, Book, Poll, Ask, WriteFirst, ReadFirst, outcomeOf, opens, lentBy, lentAfter, History, fresh, historyAfter}
+use Rattle.promises.specs.Refusals.{OpenListed, BookListed, PollListed, ReadingListed, WriteFileListed, ReadFileListed}
 use Rattle.promises.specs.Damage.{NamesDamage}
 use Rattle.promises.specs.DayFile.{Written}
 use Rattle.promises.specs.Confidence.{Counted, sizes}
@@ -23,7 +22,7 @@ use Rattle.station.specs.Returned.{Handed}
 use Rattle.code_promises.specs.Contract.{Contract, Unasked, Allowed}
 
 -- all that a caller sees of a call: the words before it, the number and the value that it gave, the words after it, and the bytes after it in
--- the buffer lent besides. What stood in that buffer is in the call, and a call that is lent none leaves no bytes
+-- the buffer lent besides. What stood in that buffer is in the call, and a call that is lent none to write into leaves no bytes
 pub record Done : Type 0 where
   pub call : Call
   pub before : List ℕ
@@ -47,7 +46,8 @@ ListedFirst (Open s) w = OpenListed w s
 ListedFirst (Book name slot parents) w = BookListed w name slot parents
 ListedFirst (Poll name votes) w = PollListed w name votes
 ListedFirst (Ask what name) w = ReadingListed w name
-ListedFirst (WriteFirst buffer) w = WriteListed w buffer
+ListedFirst (WriteFirst buffer) w = WriteFileListed w buffer
+ListedFirst (ReadFirst file) w = ReadFileListed w file
 
 -- demands 2 and 3 of words with their history
 pub record Kept (w : List ℕ) (h : History) : Type 0 where
@@ -113,6 +113,12 @@ module _ {Name : Type 0} (function : Name → Function) where
       (d : Done) (buffer : List ℕ) → Made d → d .call ≡ WriteFirst buffer → d .number ≡ 0
       → Written (dayFile (d .before)) buffer (d .value) (d .lent) × (d .after ≡ d .before)
 
+  -- a file that is read leaves a ledger whose file it is, whatever the words were, and value 0
+  unfoldable pub CodeReads : Type 0
+  CodeReads =
+      (d : Done) (file : List ℕ) → Made d → d .call ≡ ReadFirst file → d .number ≡ 0
+      → Ledger (d .after) × (dayFile (d .after) ≡ file) × (d .value ≡ pos 0)
+
   -- a taken answer of 1 to the question whether booking i of the words w is accepted
   pub record Accepts (w : List ℕ) (i : ℕ) : Type 0 where
     pub done : Done
@@ -126,9 +132,9 @@ module _ {Name : Type 0} (function : Name → Function) where
   unfoldable pub CodeAcceptsOnce : Type 0
   CodeAcceptsOnce = (w : List ℕ) (i j : ℕ) → i < bookings w → j < bookings w → slotOf w i ≡ slotOf w j → Accepts w i → Accepts w j → i ≡ j
 
-  -- words that any calls leave after a taken opening, with the history of their polls
+  -- words that any calls leave after a taken opening or a file that was read, with the history of their polls
   pub data Ran : List ℕ → History → Type 0 where
-    opened : (d : Done) (s : Setting) → Made d → d .call ≡ Open s → d .number ≡ 0 → Ran (d .after) fresh
+    opened : (d : Done) → Made d → opens (d .call) ≡ true → d .number ≡ 0 → Ran (d .after) (historyAfter (d .call) (d .before) fresh)
     called : (d : Done) {h : History} → Made d → Ran (d .before) h → Ran (d .after) (historyAfter (d .call) (d .before) h)
 
   -- all such words have what demands 2 and 3 ask for

@@ -1,4 +1,5 @@
--- CR 2: the cases of the day file, one table under one statement, computed from the definitions on whole workspaces.
+-- CR 2 and CR 4: the cases of writing the day file, and of reading what was written, one table under one statement, computed from the definitions on whole
+-- workspaces. Files that are bad stand in ReadCases.antt.
 -- Every step is a call with its refusals, as a user would make it. The bytes are plain numbers, worked out by hand from the request's words.
 use mathlib.Core.Path.{_≡_, sym, ap, ap₂, _∙_}
 use mathlib.Core.List.{List, [], _∷_, _++_}
@@ -23,15 +24,18 @@ use Rattle.rules.specs.Poll.{polled, raiseOne, prefer, follow, settleOne}
 use Rattle.rules.specs.Calls.{openCall, bookBy, pollBy, bookCall, pollCall}
 use Rattle.rules.proofs.Same.{sameNumbers, Got, got, Passes, passes, sameTable, same-table}
 use Rattle.rules.proofs.Walk.{badRecordWalked, badSlotWalked, testWalked, test-walked-is}
-use Rattle.day_file.specs.Day.{parentCount, holder, dayOf}
+use Rattle.day_file.specs.Day.{Day, parentCount, holder, dayOf}
 use Rattle.day_file.specs.Bytes.{highFirst, joined, encode}
-use Rattle.day_file.specs.Calls.{writeFirstBy, writeFirstCall}
+use Rattle.day_file.specs.Decode.{valueOf, readMany, decode}
+use Rattle.day_file.specs.Replay.{inOrder, replayBy, replay, goodFileBy, goodFile}
+use Rattle.day_file.specs.Calls.{writeFirstBy, writeFirstCall, readFirstBy, readFirstCall}
 
--- the calls that the cases make
+-- the calls that the cases make, here and in ReadCases.antt
 pub record CallsMade : Type 0 where
   pub book : List ℕ → ℕ → ℕ → List ℕ → Outcome
   pub poll : List ℕ → ℕ → List ℕ → Outcome
   pub write : List ℕ → List ℕ → Handover
+  pub read : List ℕ → List ℕ → Outcome
 
 -- the calls of the law
 unfoldable pub theCalls : CallsMade
@@ -40,26 +44,39 @@ theCalls =
       book = bookCall;
       poll = pollCall;
       write = writeFirstCall;
+      read = readFirstCall;
     }
 
 -- a number: the value of a taken call, a byte, or 1 for yes
-abbrev is : ℕ → Got
+abbrev pub is : ℕ → Got
 is n = (0, pos n)
 
-abbrev each : List ℕ → List Got
+abbrev pub each : List ℕ → List Got
 each [] = []
 each (n ∷ ns) = is n ∷ each ns
 
 -- what writing gives: number and value, whether every word is as it was, and the bytes of the buffer
-abbrev written : CallsMade → (w buffer : List ℕ) → List Got
+abbrev pub written : CallsMade → (w buffer : List ℕ) → List Got
 written c w buffer = let o = c .write w buffer in got (o .answer) ∷ is (bit (sameNumbers (o .words) w)) ∷ each (o .lent)
 
 -- and what it has to give: every word is as it was
-abbrev given : Got → (bytes : List ℕ) → List Got
+abbrev pub given : Got → (bytes : List ℕ) → List Got
 given answer bytes = answer ∷ is 1 ∷ each bytes
 
-abbrev unopened : List ℕ
+-- what reading gives: number and value, and whether the words are then the expected ones
+abbrev pub read : Outcome → (expected : List ℕ) → List Got
+read o expected = got (o .answer) ∷ is (bit (sameNumbers (o .words) expected)) ∷ []
+
+-- and what it has to give: number, value 0, and that they are
+abbrev pub leaving : ℕ → List Got
+leaving number = (number, pos 0) ∷ is 1 ∷ []
+
+abbrev pub unopened : List ℕ
 unopened = replicate size 0
+
+-- a ledger with another setting than any file here
+abbrev pub other : List ℕ
+other = openCall unopened (settingOf 1 1 1 1) .words
 
 -- ---- the ledger that document 01's listing is of
 
@@ -90,11 +107,12 @@ example c =
     let poll3 = c .poll poll2 3 (1 ∷ 0 ∷ 0 ∷ []) .words in
     let poll4 = c .poll poll3 4 (1 ∷ 1 ∷ 1 ∷ []) .words in
     let poll1 = c .poll poll4 1 (1 ∷ 1 ∷ 0 ∷ []) .words in
-    written c poll1 (replicate 88 7 ++ 8 ∷ 9 ∷ []) ∷ []
+    let again = c .read other fileSays in
+    written c poll1 (replicate 88 7 ++ 8 ∷ 9 ∷ []) ∷ read again poll1 ∷ written c (again .words) (replicate 88 7) ∷ []
 
--- the bytes past the file stay
+-- the bytes past the file stay. Read, it gives every word of the ledger, and is written again
 unfoldable pub exampleRows : List (List Got)
-exampleRows = given (is 88) (fileSays ++ 8 ∷ 9 ∷ []) ∷ []
+exampleRows = given (is 88) (fileSays ++ 8 ∷ 9 ∷ []) ∷ leaving 0 ∷ given (is 88) fileSays ∷ []
 
 -- ---- a ledger where no name is its booking's number, parents are not given in rising number, and high bytes are not all 0. The first poll is of name 2,
 -- which is number 3, and succeeds; the second is of number 1, and fails by 32 yes of 33 needed, whatever confidence the first gave it. Numbers 2 and 4
@@ -125,10 +143,11 @@ second c =
     let booked4 = c .book booked3 258 128 (2 ∷ 0 ∷ mixed ∷ highest ∷ []) .words in
     let poll3 = c .poll booked4 2 (replicate 33 1 ++ replicate 31 255) .words in
     let poll1 = c .poll poll3 highest (replicate 32 1 ++ replicate 32 0) .words in
-    written c poll1 (replicate 88 7 ++ 8 ∷ []) ∷ []
+    let again = c .read other secondSays in
+    written c poll1 (replicate 88 7 ++ 8 ∷ []) ∷ read again poll1 ∷ written c (again .words) (replicate 88 7) ∷ []
 
 unfoldable pub secondRows : List (List Got)
-secondRows = given (is 88) (secondSays ++ 8 ∷ []) ∷ []
+secondRows = given (is 88) (secondSays ++ 8 ∷ []) ∷ leaving 0 ∷ given (is 88) secondSays ∷ []
 
 -- ---- the genesis alone, with the paper's setting
 
@@ -138,16 +157,24 @@ aloneSays = 0 ∷ 4 ∷ 0 ∷ 10 ∷ 0 ∷ 8 ∷ 0 ∷ 11 ∷ 0 ∷ 150 ∷ 0 �
 unfoldable pub alone : CallsMade → List (List Got)
 alone c =
     let empty = openCall unopened (settingOf 10 8 11 150) .words in
+    let again = c .read unopened aloneSays in
     -- a buffer of just the file's length
     written c empty (replicate 14 7)
     -- and one byte less
     ∷ written c empty (replicate 13 7)
+    -- read where nothing was opened, and on another ledger
+    ∷ read again empty
+    ∷ written c (again .words) (replicate 14 7)
+    ∷ read (c .read other aloneSays) empty
     ∷ []
 
 unfoldable pub aloneRows : List (List Got)
 aloneRows =
     given (is 14) aloneSays
     ∷ given (16, pos 0) (replicate 13 7)
+    ∷ leaving 0
+    ∷ given (is 14) aloneSays
+    ∷ leaving 0
     ∷ []
 
 -- ---- damage comes before a short buffer. One booking, number 1 in slot 7, waits: no confidence and no counter may be above 0, and p may be 0 or 1
@@ -185,34 +212,46 @@ damagedRows =
 abbrev pub table : CallsMade → List (List Got)
 table c = example c ++ second c ++ alone c ++ damaged c
 
--- what CR 2 says
+-- what the requests say
 abbrev pub says : List (List Got)
 says = exampleRows ++ secondRows ++ aloneRows ++ damagedRows
 
 -- ---- computed with the test that walks
 
-abbrev made : (List ℕ → Tested) → CallsMade
-made test = record { book = bookBy test; poll = pollBy test; write = writeFirstBy test }
+-- reading, with the day made once for its answer and its words
+abbrev readOnce : (Day → Outcome) → List ℕ → List ℕ → Outcome
+readOnce again w file =
+    let o = again (decode file) in
+    readFirstBy (goodFileBy (λ d. o)) (λ d. o) w file
+
+abbrev pub made : (List ℕ → Tested) → CallsMade
+made test =
+    record {
+      book = bookBy test;
+      poll = pollBy test;
+      write = writeFirstBy test;
+      read = readOnce (replayBy test);
+    }
 
 example-walked : Passes (sameTable (example (made testWalked)) exampleRows)
-unfolding example exampleRows dayOf parentCount holder highFirst joined encode sameNumbers testWalked badRecordWalked badSlotWalked headerGood genesisGood bookingGood parentsGood stateGood chits bookingsOf opened openWord lookUp hasUnknown hasTwice entered booked polled raiseOne prefer follow settleOne ancestry sweep spread voteOf openCall upTo firstFrom total greatest from walkFrom
+unfolding example exampleRows decode valueOf readMany inOrder dayOf parentCount holder highFirst joined encode sameNumbers testWalked badRecordWalked badSlotWalked headerGood genesisGood bookingGood parentsGood stateGood chits bookingsOf opened openWord lookUp hasUnknown hasTwice entered booked polled raiseOne prefer follow settleOne ancestry sweep spread voteOf openCall upTo firstFrom total greatest from walkFrom
 example-walked = tt
 
 second-walked : Passes (sameTable (second (made testWalked)) secondRows)
-unfolding second secondRows dayOf parentCount holder highFirst joined encode sameNumbers testWalked badRecordWalked badSlotWalked headerGood genesisGood bookingGood parentsGood stateGood chits bookingsOf opened openWord lookUp hasUnknown hasTwice entered booked polled raiseOne prefer follow settleOne ancestry sweep spread voteOf openCall upTo firstFrom total greatest from walkFrom
+unfolding second secondRows decode valueOf readMany inOrder dayOf parentCount holder highFirst joined encode sameNumbers testWalked badRecordWalked badSlotWalked headerGood genesisGood bookingGood parentsGood stateGood chits bookingsOf opened openWord lookUp hasUnknown hasTwice entered booked polled raiseOne prefer follow settleOne ancestry sweep spread voteOf openCall upTo firstFrom total greatest from walkFrom
 second-walked = tt
 
 alone-walked : Passes (sameTable (alone (made testWalked)) aloneRows)
-unfolding alone aloneRows dayOf parentCount holder highFirst joined encode sameNumbers testWalked badRecordWalked badSlotWalked headerGood genesisGood bookingGood parentsGood stateGood chits bookingsOf opened openWord lookUp hasUnknown hasTwice entered booked polled raiseOne prefer follow settleOne ancestry sweep spread voteOf openCall upTo firstFrom total greatest from walkFrom
+unfolding alone aloneRows decode valueOf readMany inOrder dayOf parentCount holder highFirst joined encode sameNumbers testWalked badRecordWalked badSlotWalked headerGood genesisGood bookingGood parentsGood stateGood chits bookingsOf opened openWord lookUp hasUnknown hasTwice entered booked polled raiseOne prefer follow settleOne ancestry sweep spread voteOf openCall upTo firstFrom total greatest from walkFrom
 alone-walked = tt
 
 damaged-walked : Passes (sameTable (damaged (made testWalked)) damagedRows)
-unfolding damaged damagedRows dayOf parentCount holder highFirst joined encode sameNumbers testWalked badRecordWalked badSlotWalked headerGood genesisGood bookingGood parentsGood stateGood chits bookingsOf opened openWord lookUp hasUnknown hasTwice entered booked polled raiseOne prefer follow settleOne ancestry sweep spread voteOf openCall upTo firstFrom total greatest from walkFrom
+unfolding damaged damagedRows decode valueOf readMany inOrder dayOf parentCount holder highFirst joined encode sameNumbers testWalked badRecordWalked badSlotWalked headerGood genesisGood bookingGood parentsGood stateGood chits bookingsOf opened openWord lookUp hasUnknown hasTwice entered booked polled raiseOne prefer follow settleOne ancestry sweep spread voteOf openCall upTo firstFrom total greatest from walkFrom
 damaged-walked = tt
 
 -- one ledger's rows, by the calls of the law
-rows-by : (rows : CallsMade → List (List Got)) (said : List (List Got)) → Passes (sameTable (rows (made testWalked)) said) → rows theCalls ≡ said
-unfolding theCalls bookCall pollCall writeFirstCall
+pub rows-by : (rows : CallsMade → List (List Got)) (said : List (List Got)) → Passes (sameTable (rows (made testWalked)) said) → rows theCalls ≡ said
+unfolding theCalls bookCall pollCall writeFirstCall readFirstCall goodFile replay
 rows-by rows said walked = ap (λ test. rows (made test)) (sym test-walked-is) ∙ same-table (rows (made testWalked)) said (passes _ walked)
 
 -- the statement: the cases are as the request says

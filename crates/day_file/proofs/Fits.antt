@@ -1,11 +1,10 @@
--- CR 2: the day of a ledger, in words of 16 bits, fits its bytes. Assumes nothing.
+-- CR 2: the day of a ledger whose names have 64 bits fits its bytes. Soundness bounds everything else. Assumes nothing.
 use mathlib.Core.List.{List}
 use Prim.Native.Nat.{ℕ, zero, suc, _+_, _-_, _^_, _<_, _≤_}
 use native.Mathlib.Omega.{arith}
-use lib.ListN.{getD}
 use Rattle.loops.specs.Fill.{from}
 use Rattle.loops.proofs.Fill.{length-from}
-use Rattle.rules.specs.Layout.{recordAt, bookings, polls, nameOf, parentOf}
+use Rattle.rules.specs.Layout.{bookings, polls, nameOf, parentOf}
 use Rattle.rules.specs.Sound.{Ledger}
 use Rattle.day_file.specs.Day.{parentCount, bookingAt, holder, pollOf, dayOf}
 use Rattle.day_file.proofs.Codec.{Each, Short, BookingFits, PollFits, DayFits}
@@ -18,16 +17,13 @@ unfolding from
 each-from P f i zero h = tt
 each-from P f i (suc n) h = (h i (omega arith) (omega arith), each-from P f (suc i) n (λ j l u. h j (omega arith) (omega arith)))
 
-module _ (w : List ℕ) (ledger : Ledger w) (words : (k : ℕ) → getD w k 0 < 65536) where
-  name-fits : (i : ℕ) → nameOf w i < 2 ^ 64
-  name-fits i = omega (arith, words (recordAt i 0), words (recordAt i 1), words (recordAt i 2), words (recordAt i 3))
-
+module _ (w : List ℕ) (ledger : Ledger w) (names : (i : ℕ) → i < bookings w → nameOf w i < 2 ^ 64) where
   booking-fits : (i : ℕ) → 1 ≤ i → i < bookings w → BookingFits (bookingAt w i)
   booking-fits i l u =
       let b = ledger .sound .booking i l u in
       let below : (a : ℕ) → a < parentCount w i → Short (parentOf w i a) = λ a v. omega (arith, parent-below w i b a v, ledger .sound .bookingsMost) in
       record {
-        name = name-fits i;
+        name = names i u;
         slot = omega (arith, b .slotMost);
         parents = record {
           few = omega (arith, length-from (parentOf w i) 0 (parentCount w i), parentCount-most w i);

@@ -1,7 +1,8 @@
 -- CR 2: what a day file carries of a ledger, as a day: the setting, the bookings in the order of their numbers, the polls in the order of their ordinals.
-use Prim.Native.Nat.{ℕ, _-_}
-use mathlib.Core.Bool.{Bool}
-use mathlib.Core.List.{List}
+use Prim.Native.Nat.{ℕ, zero, suc, _-_}
+use mathlib.Core.Bool.{Bool, false}
+use mathlib.Core.List.{List, []}
+use lib.ListN.{getD}
 use lib.Dec.{eqb}
 use Rattle.loops.specs.Search.{first}
 use Rattle.loops.specs.Fill.{from}
@@ -23,6 +24,29 @@ pub record Day : Type 0 where
   pub setting : Setting
   pub bookings : List DayBooking
   pub polls : List DayPoll
+
+-- ---- the rows of a day, by number
+
+-- the booking after j others, which has number j + 1
+abbrev pub bookingIn : List DayBooking → ℕ → DayBooking
+bookingIn bs j = getD bs j (record { name = 0; slot = 0; parents = [] })
+
+-- the name of number i: the genesis has 0
+abbrev pub nameIn : List DayBooking → ℕ → ℕ
+nameIn bs zero = 0
+nameIn bs (suc j) = bookingIn bs j .name
+
+-- the poll after q others
+abbrev pub pollIn : List DayPoll → ℕ → DayPoll
+pollIn qs q = getD qs q (record { booking = 0; success = false })
+
+-- the number of its booking
+abbrev pub polledIn : List DayPoll → ℕ → ℕ
+polledIn qs q = pollIn qs q .booking
+
+-- whether it succeeded
+abbrev pub succeededIn : List DayPoll → ℕ → Bool
+succeededIn qs q = pollIn qs q .success
 
 -- ---- the day that words hold
 

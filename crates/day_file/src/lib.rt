@@ -1,1 +1,3 @@
-// THE LAW OF THE DAY FILE, in specs/, its laws and cases, in proofs/. No code: what writes a file stands in `day_put`, `day_rows`, `day_sections` and `known_write`.
+// THE LAW OF THE DAY FILE, in specs/, its laws and cases, in proofs/. No code but where the parts of a file stand: what writes one is
+// in `day_put`, `day_rows`, `day_sections` and `known_write`, and what reads one in `day_get`, `day_judge` and `day_replay`.
+pub mod bytes;

@@ -11,9 +11,11 @@ use terms::answer::Refusal;
 use terms::answer::Tested;
 use terms::setting::Setting;
 ghost use mathlib.Core.Path.{_≡_};
+ghost use lib.ListN.{length};
+ghost use Rattle.rules.specs.Layout.{size};
 ghost use Rattle.terms.specs.Answers.{outcome, handover};
 ghost use Rattle.rules.specs.Calls.{openCall, bookCall, pollCall};
-ghost use Rattle.day_file.specs.Calls.{writeFirstCall};
+ghost use Rattle.day_file.specs.Calls.{writeFirstCall, readFirstCall};
 
 // The workspace becomes a ledger with the genesis only. Refusals 1, 3.
 pub fn open(w: &mut [u16], s: Setting) -> Answer
@@ -58,4 +60,26 @@ pub fn write_first(w: &[u16], out: &mut [u8]) -> Answer
         Tested::Stop(refusal) => Answer::Refused(refusal),
         Tested::Fine => known_write::write_first(w, out),
     }
+}
+
+// The ledger that a file carries, into words of the right length. The file is judged before a word is touched.
+fn take_over(w: &mut [u16], file: &[u8]) -> Answer
+    requires { ⌜ length (now w) ≡ size ⌝ }
+    ensures { λ r. ⌜ outcome r (now (w .exit)) ≡ readFirstCall (now (w .entry)) (now (file .entry)) ⌝ }
+{
+    if !day_judge::is_good(file) {
+        return Answer::Refused(Refusal::BadFile);
+    }
+    day_replay::replay(w, file);
+    Answer::Taken(0)
+}
+
+// The words become the ledger that a day file, in its first form, carries. What they held before is not looked at. Refusals 1, 17.
+pub fn read_first(w: &mut [u16], file: &[u8]) -> Answer
+    ensures { λ r. ⌜ outcome r (now (w .exit)) ≡ readFirstCall (now (w .entry)) (now (file .entry)) ⌝ }
+{
+    if w.len() != layout::SIZE {
+        return Answer::Refused(Refusal::WrongLength);
+    }
+    take_over(w, file)
 }

@@ -1,4 +1,4 @@
-// What every public call but open asks first, once: is the lent memory a ledger.
+// What every public call asks first, once, that makes no new ledger: is the lent memory one.
 use rules::layout;
 use terms::answer::Refusal;
 use terms::answer::Tested;

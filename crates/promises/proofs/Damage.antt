@@ -29,12 +29,14 @@ use Rattle.rules.specs.Readings.{readingOf}
 use Rattle.rules.specs.Listing.{listCall}
 use Rattle.rules.specs.Calls.{openAnswer, openCall, testOf, tested, bookAnswer, bookCall, askedOf, pollAnswer, pollCall, readingCall}
 use Rattle.day_file.specs.Bytes.{dayFile}
-use Rattle.day_file.specs.Calls.{laid, writeFirstAnswer, writeFirstCall}
+use Rattle.day_file.specs.Decode.{decode}
+use Rattle.day_file.specs.Replay.{replay, goodFile}
+use Rattle.day_file.specs.Calls.{laid, writeFirstAnswer, writeFirstCall, readFirstAnswer, readFirstCall}
 use Rattle.rule_laws.proofs.Sound.{tests→Sound, header-kept, record-kept, slot-kept}
 use Rattle.rule_laws.proofs.RowRules.{Rules→headerGood, recordRow→Rules, Rules→recordRow, slotGood→Rules, Rules→slotGood}
 use Rattle.rule_laws.proofs.Calls.{leaves-answer, handsOver-answer}
 use Rattle.rule_laws.proofs.Tested.{tested-in-order}
-use Rattle.promises.specs.Run.{Call, Open, Book, Poll, Ask, WriteFirst, outcomeOf}
+use Rattle.promises.specs.Run.{Call, Open, Book, Poll, Ask, WriteFirst, ReadFirst, outcomeOf}
 use Rattle.promises.specs.Damage.{SoundByRows, Lowest, NamesDamage, DamageNamed}
 
 pub sound-by-rows : SoundByRows
@@ -142,6 +144,12 @@ unfolding writeFirstCall
 write-names w buffer =
     rw (handsOver-answer (writeFirstAnswer testOf w buffer) w buffer (laid (dayFile w) buffer)) (tested-names w _ (simp (other-cond, both-true)))
 
+read-names : (w file : List ℕ) → NamesDamage w (number (readFirstCall w file .answer)) (value (readFirstCall w file .answer))
+unfolding readFirstCall
+read-names w file =
+    rw (leaves-answer (readFirstAnswer goodFile w file) w (replay (decode file) .words))
+    (other-names w (readFirstAnswer goodFile w file) (simp (other-cond, both-true)))
+
 calls-name : (c : Call) (w : List ℕ) → NamesDamage w (number (outcomeOf c w .answer)) (value (outcomeOf c w .answer))
 unfolding outcomeOf
 calls-name (Open s) w = open-names w s
@@ -149,6 +157,7 @@ calls-name (Book name slot parents) w = book-names w name slot parents
 calls-name (Poll name votes) w = poll-names w name votes
 calls-name (Ask what name) w = reading-names (readingOf what w) w name
 calls-name (WriteFirst buffer) w = write-names w buffer
+calls-name (ReadFirst file) w = read-names w file
 
 list-names : (w : List ℕ) → NamesDamage w (number (listCall w)) (value (listCall w))
 unfolding listCall

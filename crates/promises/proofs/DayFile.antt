@@ -1,7 +1,7 @@
 -- The promises of the day file: what the call leaves, by its cases; the file's length; and that the file tells the day and nothing else, from the laws of
 -- day_file/proofs.
 -- Rests on specs/DayFile.antt. Assumes nothing.
-use mathlib.Core.Path.{_≡_, refl, ap, _∙_}
+use mathlib.Core.Path.{_≡_, refl, sym, ap, _∙_}
 use mathlib.Core.Bool.{Bool, true, false, cond}
 use mathlib.Core.List.{List}
 use Prim.Native.Nat.{ℕ, _-_, _<_, _≤_}
@@ -20,12 +20,12 @@ use Rattle.terms.specs.declared.answer.Tested.the-variants.{Fine, Stop}
 use Rattle.terms.specs.declared.answer.Answer.{Answer}
 use Rattle.terms.specs.declared.answer.Answer.the-variants.{Taken, Refused}
 use Rattle.terms.specs.Answers.{number, value, handsOver}
-use Rattle.rules.specs.Layout.{mostParents, none, bookings, polls, parentOf, ordinalOf}
+use Rattle.rules.specs.Layout.{recordAt, bookings, polls, ordinalOf}
 use Rattle.rules.specs.Sound.{Ledger}
 use Rattle.rules.specs.Calls.{testOf, unlessStopped}
 use Rattle.rule_laws.proofs.Calls.{number-refused, handsOver-answer}
 use Rattle.rule_laws.proofs.Tested.{tested-known}
-use Rattle.day_file.specs.Day.{parentCount, bookingAt, holder, pollOf, dayOf}
+use Rattle.day_file.specs.Day.{bookingAt, holder, pollOf, dayOf}
 use Rattle.day_file.specs.Bytes.{encode, dayFile}
 use Rattle.day_file.specs.Calls.{laid, writeFirstAnswer, writeFirstCall}
 use Rattle.day_file.proofs.Laid.{length-laid, laid-front, laid-past}
@@ -33,9 +33,9 @@ use Rattle.day_file.proofs.Lengths.{length-dayFile, dayFile-least, dayFile-most
 use Rattle.day_file.proofs.Codec.{encode-same}
 use Rattle.day_file.proofs.Fits.{dayOf-fits}
 use Rattle.day_file.proofs.SameDay.{same-setting, same-bookings, same-name, same-slot, same-parent, same-polls, same-ordinal, same-state}
-use Rattle.day_file.proofs.Parents.{parentCount-most}
 use Rattle.day_file.proofs.Holders.{holder-below}
-use Rattle.promises.specs.DayFile.{Written, FileWritten, FileTaken, FileCounted, FileLength, SameDay, SameFile, SameDayFile}
+use Rattle.promises.proofs.DayGrown.{bookingAt-same}
+use Rattle.promises.specs.DayFile.{Written, FileWritten, FileTaken, FileCounted, FileLength, WordsNamed, SameDay, SameFile, SameDayFile}
 
 -- ---- the call
 
@@ -83,10 +83,13 @@ pub file-length : FileLength
 unfolding FileLength
 file-length w ledger = (dayFile-least w ledger, dayFile-most w ledger)
 
-pub same-file : SameFile
-unfolding SameFile
-same-file w u lw lu ww wu e =
-    let day : dayOf w ≡ dayOf u = encode-same (dayOf w) (dayOf u) (dayOf-fits w lw ww) (dayOf-fits u lu wu) e in
+pub words-named : WordsNamed
+unfolding WordsNamed
+words-named w words i h = omega (arith, words (recordAt i 0), words (recordAt i 1), words (recordAt i 2), words (recordAt i 3))
+
+-- two ledgers with one day between them
+pub same-day : (w u : List ℕ) → dayOf w ≡ dayOf u → Ledger w → Ledger u → SameDay w u
+same-day w u day lw lu =
     record {
       setting = same-setting w u day;
       bookingsSame = same-bookings w u day lw lu;
@@ -98,21 +101,15 @@ same-file w u lw lu ww wu e =
       state = same-state w u day lw lu;
     }
 
+pub same-file : SameFile
+unfolding SameFile
+same-file w u lw lu nw nu e = same-day w u (encode-same (dayOf w) (dayOf u) (dayOf-fits w lw nw) (dayOf-fits u lu nu) e) lw lu
+
 -- ---- the same day gives the same file: each part of it is read off what the ledgers have in common
 
 module _ (w u : List ℕ) (ledger : Ledger w) (same : SameDay w u) where
-  parentCount-same : (i : ℕ) → i < bookings w → parentCount w i ≡ parentCount u i
-  unfolding parentCount
-  parentCount-same i h =
-      firstFrom-same (λ a. eqb (parentOf w i a) none) (λ a. eqb (parentOf u i a) none) 0 mostParents (λ a l v. ap (λ q. eqb q none) (same .parent i a h v))
-
-  parents-same : (i : ℕ) → i < bookings w → from (parentOf w i) 0 (parentCount w i) ≡ from (parentOf u i) 0 (parentCount u i)
-  parents-same i h =
-      from-agree (parentOf w i) (parentOf u i) 0 (parentCount w i) (λ a l v. same .parent i a h (omega (arith, parentCount-most w i)))
-      ∙ ap (from (parentOf u i) 0) (parentCount-same i h)
-
   booking-same : (i : ℕ) → i < bookings w → bookingAt w i ≡ bookingAt u i
-  booking-same i h = λ k. record { name = same .name i h k; slot = same .slot i h k; parents = parents-same i h k }
+  booking-same i h = sym (bookingAt-same w u i (λ a v. sym (same .parent i a h v)) (sym (same .name i h)) (sym (same .slot i h)))
 
   holder-same : (ordinal : ℕ) → holder w ordinal ≡ holder u ordinal
   unfolding holder

@@ -4,16 +4,19 @@ use mathlib.Core.Bool.{Bool, true, false, true≢false}
 use mathlib.Core.List.{List}
 use Prim.Native.Nat.{ℕ}
 use Rattle.terms.specs.declared.setting.Setting.{Setting}
+use Rattle.terms.specs.Answers.{isTaken}
 use Rattle.rules.specs.Book.{lookUp, numberOf}
 use Rattle.rules.specs.Calls.{openCall, bookCall, pollCall}
 use Rattle.rules.specs.Sound.{Ledger}
 use Rattle.rule_laws.proofs.Opened.{opened-ledger}
-use Rattle.promises.specs.Run.{Call, Open, Book, Poll, Ask, WriteFirst, outcomeOf, isTaken}
+use Rattle.day_file.specs.Calls.{readFirstCall}
+use Rattle.promises.specs.Run.{Call, Open, Book, Poll, Ask, WriteFirst, ReadFirst, outcomeOf, opens}
 use Rattle.promises.specs.Soundness.{OpenedSound, SoundKept}
-use Rattle.promises.specs.Lasting.{Grown, opens, BookingsLast, AncestryLasts}
-use Rattle.promises.proofs.Taken.{open-taken, open-kept, book-taken, book-kept, poll-taken, poll-kept, write-words}
+use Rattle.promises.specs.Lasting.{Grown, BookingsLast, AncestryLasts}
+use Rattle.promises.proofs.Taken.{open-taken, open-kept, book-taken, book-kept, poll-taken, poll-kept, write-words, read-taken, read-kept}
 use Rattle.promises.proofs.Booked.{booked-ledger, booked-grown}
 use Rattle.promises.proofs.Polled.{polled-ledger, polled-grown}
+use Rattle.promises.proofs.Good.{file-ledger}
 use Rattle.promises.proofs.Grown.{grown-self, ancestry-grown, reaches-grown}
 
 -- u is a ledger that has grown from w
@@ -42,7 +45,7 @@ kept-poll w name votes true t l =
     kept-words (o .2) (record { ledger = polled-ledger w i votes l (o .1); grown = polled-grown w i votes l (o .1) })
 kept-poll w name votes false t l = kept-words (poll-kept w name votes t) (kept-self w l)
 
--- every call but an opening
+-- every call that makes no new ledger
 call-kept : (c : Call) (w : List ℕ) → opens c ≡ false → Ledger w → Continues w (outcomeOf c w .words)
 unfolding outcomeOf
 call-kept (Open s) w n l = absurd (true≢false n)
@@ -50,17 +53,29 @@ call-kept (Book name slot parents) w n l = kept-book w name slot parents (isTake
 call-kept (Poll name votes) w n l = kept-poll w name votes (isTaken (pollCall w name votes .answer)) refl l
 call-kept (Ask what name) w n l = kept-self w l
 call-kept (WriteFirst buffer) w n l = kept-words (write-words w buffer) (kept-self w l)
+call-kept (ReadFirst file) w n l = absurd (true≢false n)
 
 -- ---- the promises
 
 pub opened-sound : OpenedSound
-unfolding OpenedSound
-opened-sound w s t = let o = open-taken w s t in subst Ledger (sym (o .2)) (opened-ledger s (o .1))
+unfolding OpenedSound outcomeOf
+opened-sound (Open s) w n t = let o = open-taken w s t in subst Ledger (sym (o .2)) (opened-ledger s (o .1))
+opened-sound (Book name slot parents) w n t = absurd (true≢false (sym n))
+opened-sound (Poll name votes) w n t = absurd (true≢false (sym n))
+opened-sound (Ask what name) w n t = absurd (true≢false (sym n))
+opened-sound (WriteFirst buffer) w n t = absurd (true≢false (sym n))
+opened-sound (ReadFirst file) w n t = let o = read-taken w file t in subst Ledger (sym (o .2)) (file-ledger file (o .1))
 
+-- taken or refused
 open-sound : (w : List ℕ) (s : Setting) (taken : Bool) → isTaken (openCall w s .answer) ≡ taken → Ledger w → Ledger (openCall w s .words)
-unfolding OpenedSound
-open-sound w s true t l = opened-sound w s t
+unfolding OpenedSound outcomeOf
+open-sound w s true t l = opened-sound (Open s) w refl t
 open-sound w s false t l = subst Ledger (sym (open-kept w s t)) l
+
+read-sound : (w file : List ℕ) (taken : Bool) → isTaken (readFirstCall w file .answer) ≡ taken → Ledger w → Ledger (readFirstCall w file .words)
+unfolding OpenedSound outcomeOf
+read-sound w file true t l = opened-sound (ReadFirst file) w refl t
+read-sound w file false t l = subst Ledger (sym (read-kept w file t)) l
 
 pub sound-kept : SoundKept
 unfolding SoundKept outcomeOf
@@ -69,6 +84,7 @@ sound-kept (Book name slot parents) w l = call-kept (Book name slot parents) w r
 sound-kept (Poll name votes) w l = call-kept (Poll name votes) w refl l .ledger
 sound-kept (Ask what name) w l = l
 sound-kept (WriteFirst buffer) w l = call-kept (WriteFirst buffer) w refl l .ledger
+sound-kept (ReadFirst file) w l = read-sound w file (isTaken (readFirstCall w file .answer)) refl l
 
 pub bookings-last : BookingsLast
 unfolding BookingsLast

@@ -9,7 +9,6 @@ pub mod BookedSlots
 pub mod Booked
 pub mod Acceptance
 pub mod Damage
-pub mod Refusals
 pub mod Ranges
 pub mod Noted
 pub mod Ordinals
@@ -18,6 +17,17 @@ pub mod Succeeded
 pub mod Failed
 pub mod Polled
 pub mod Run
+pub mod Good
 pub mod Kept
 pub mod Told
 pub mod DayFile
+pub mod DayGrown
+pub mod Rebooked
+pub mod Repolled
+pub mod DayRows
+pub mod Stages
+pub mod DayGood
+pub mod Replayed
+pub mod ReplayRun
+pub mod ReadFile
+pub mod Refusals

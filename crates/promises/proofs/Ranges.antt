@@ -26,9 +26,9 @@ use Rattle.promises.specs.Run.{outcomeOf}
 use Rattle.promises.specs.Damage.{NamesDamage}
 use Rattle.promises.specs.Ranges.{Between, Ranges}
 use Rattle.promises.proofs.Damage.{damage-named}
-use Rattle.promises.proofs.Taken.{reading-taken, write-taken}
+use Rattle.promises.proofs.Taken.{reading-taken, write-taken, read-value}
 
-number-le : (a : Answer) → number a ≤ 16
+number-le : (a : Answer) → number a ≤ 17
 number-le (Taken v) = omega arith
 number-le (Refused r) = refusalNumber-within r .1
 
@@ -90,4 +90,5 @@ ranges = record {
   writing = λ w buffer taken.
       let file = write-taken w buffer taken in
       rw (file .1) (between _ _ (length (dayFile w)) (omega (arith, dayFile-least w (file .0))) (omega (arith, dayFile-most w (file .0))));
+  readingFile = read-value;
 }

@@ -33,7 +33,9 @@ use Rattle.rules.specs.Poll.{polled}
 use Rattle.rules.specs.Readings.{readingOf}
 use Rattle.rules.specs.Listing.{listCall}
 use Rattle.day_file.specs.Bytes.{dayFile}
-use Rattle.day_file.specs.Calls.{laid, writeFirstAnswer, writeFirstCall}
+use Rattle.day_file.specs.Decode.{decode}
+use Rattle.day_file.specs.Replay.{replay, goodFile}
+use Rattle.day_file.specs.Calls.{laid, writeFirstAnswer, writeFirstCall, readFirstAnswer, readFirstCall}
 use Rattle.rules.specs.Calls.{
   openAnswer,
   openCall,
@@ -53,9 +55,11 @@ use Rattle.rule_laws.proofs.RowRules.{headerGood→Rules, Rules→headerGood, r
 use Rattle.rule_laws.proofs.Sound.{tests→Sound}
 use Rattle.rule_laws.proofs.Tested.{tested-in-order}
 use Rattle.rule_laws.proofs.Lookup.{found-below, found-name, absent-name, found-is}
-use Rattle.promises.specs.Run.{Open, Book, Poll, Ask, WriteFirst, outcomeOf, lentAfter}
+use Rattle.promises.specs.Run.{Open, Book, Poll, Ask, WriteFirst, ReadFirst, outcomeOf, lentAfter}
 use Rattle.promises.specs.Damage.{Broken}
-use Rattle.promises.proofs.Taken.{write-words, write-refused}
+use Rattle.promises.proofs.Taken.{write-words, write-refused, read-refused}
+use Rattle.promises.specs.ReadFile.{Writable, GoodIsWritten}
+use Rattle.promises.proofs.ReadFile.{good-is-written}
 use Rattle.promises.specs.Refusals.{
   RefusedKeeps,
   Booked,
@@ -69,7 +73,8 @@ use Rattle.promises.specs.Refusals.{
   BookListed,
   PollListed,
   ReadingListed,
-  WriteListed,
+  WriteFileListed,
+  ReadFileListed,
   ListListed,
   RefusedListed,
 }
@@ -83,6 +88,7 @@ refused-keeps (Book name slot parents) w h = let kept = book-refused w name slot
 refused-keeps (Poll name votes) w h = let kept = poll-refused w name votes h in (kept .words, kept .value, refl)
 refused-keeps (Ask what name) w h = (refl, value-refused (readCall what w name) h, refl)
 refused-keeps (WriteFirst buffer) w h = (write-words w buffer, value-refused (writeFirstCall w buffer .answer) h, write-refused w buffer h)
+refused-keeps (ReadFirst file) w h = let kept = read-refused w file h in (kept .words, kept .value, refl)
 
 -- ---- a test that tells whether a case applies
 
@@ -279,11 +285,24 @@ reading-listed f w name =
     asked-first (lookUp w name) _ e (found-decides w name) (λ i found e.
     e))
 
-write-listed : (w buffer : List ℕ) → WriteListed w buffer (number (writeFirstCall w buffer .answer))
+write-listed : (w buffer : List ℕ) → WriteFileListed w buffer (number (writeFirstCall w buffer .answer))
 unfolding writeFirstCall
 write-listed w buffer =
     tested-first w _ (ap number (handsOver-answer (writeFirstAnswer testOf w buffer) w buffer (laid (dayFile w) buffer))) (λ sound e.
     refused-first Refusal.ShortBuffer _ _ e (less-decides (length buffer) (length (dayFile w))) (λ t e.
+    e))
+
+-- 17
+unwritten-decides : (file : List ℕ) → Decides (not (goodFile file)) (Writable file → ⊥)
+unfolding GoodIsWritten
+unwritten-decides file = not-decides (goodFile file) (decides-by (good-is-written file .0) (good-is-written file .1))
+
+read-listed : (w file : List ℕ) → ReadFileListed w file (number (readFirstCall w file .answer))
+unfolding readFirstCall
+read-listed w file =
+    refused-first Refusal.WrongLength _ _ (ap number (leaves-answer (readFirstAnswer goodFile w file) w (replay (decode file) .words)))
+    (differs-decides (length w) size) (λ t e.
+    refused-first Refusal.BadFile _ _ e (unwritten-decides file) (λ t e.
     e))
 
 list-listed : (w : List ℕ) → ListListed w (number (listCall w))
@@ -298,5 +317,6 @@ refused-listed =
       polling = poll-listed;
       reading = λ what w. reading-listed (readingOf what w) w;
       writing = write-listed;
+      readingFile = read-listed;
       list = list-listed;
     }

@@ -1,23 +1,31 @@
--- Demand 3 over every run: what is right of a station after an opening, every call keeps.
+-- Demand 3 over every run: what is right of a station after an opening or a reading, every call keeps.
 use mathlib.Core.Path.{_≡_, refl, sym, ap, ap₂, subst, _∙_}
-use mathlib.Core.Bool.{Bool, true, false, cond}
+use mathlib.Core.Bool.{Bool, true, false, cond, true≢false}
 use mathlib.Core.List.{List, [], _∷_}
 use mathlib.Core.Logic.{⊎-elim}
 use Prim.Native.Nat.{ℕ, zero, suc, _+_, _<_}
 use native.Mathlib.Numerals.{add-one}
 use native.Mathlib.Nat.{add-zero, add-comm, eq-or-lt-of-le}
 use native.Mathlib.Omega.{arith}
+use lib.ListN.{replicate}
 use Rattle.loops.specs.Total.{bit, total, count}
 use Rattle.loops.proofs.Total.{total-same, total-plus, total-more, total-zeros}
 use Rattle.terms.specs.declared.setting.Setting.{Setting}
-use Rattle.rules.specs.Layout.{bookings, polls, confidenceOf, pollsField, confidenceField}
+use Rattle.terms.specs.declared.answer.Answer.{Answer}
+use Rattle.terms.specs.declared.answer.Answer.the-variants.{Taken, Refused}
+use Rattle.terms.specs.Answers.{Outcome, isTaken}
+use Rattle.rules.specs.Layout.{size, bookings, polls, confidenceOf, pollsField, confidenceField}
 use Rattle.rules.specs.Ancestry.{ancestry, isMember}
 use Rattle.rules.specs.Readings.{sizeOf}
 use Rattle.rules.specs.Open.{opened}
 use Rattle.rules.specs.Book.{booked, lookUp, numberOf}
 use Rattle.rules.specs.Poll.{polled, isSuccess}
-use Rattle.rules.specs.Calls.{openCall, bookCall, pollCall}
+use Rattle.rules.specs.Calls.{testOf, openCall, bookCall, pollCall}
 use Rattle.rules.specs.Sound.{Ledger}
+use Rattle.day_file.specs.Day.{DayBooking, DayPoll, Day}
+use Rattle.day_file.specs.Decode.{decode}
+use Rattle.day_file.specs.Replay.{namesOf, votesFor, following, inOrder, rebookBy, repollBy, replay}
+use Rattle.day_file.specs.Calls.{readFirstCall}
 use Rattle.rule_laws.proofs.Opened.{opened-ledger, header-opened, field-opened, bookings-opened}
 use Rattle.rule_laws.proofs.Ancestry.{marks→Reaches, Reaches→marks}
 use Rattle.promises.specs.Run.{
@@ -27,11 +35,13 @@ use Rattle.promises.specs.Run.{
   Poll,
   Ask,
   WriteFirst,
+  ReadFirst,
   outcomeOf,
-  isTaken,
+  opens,
   History,
   fresh,
   withPoll,
+  withPolls,
   historyAfter,
   Station,
   step,
@@ -42,7 +52,10 @@ use Rattle.promises.specs.Run.{
 use Rattle.promises.specs.Soundness.{RunSound}
 use Rattle.promises.specs.Confidence.{Counted, none, counts, passes, sizes, ConfidenceIsCounted, TotalIsSummed, PreferredIsMost}
 use Rattle.promises.specs.Lasting.{Grown, PollsAreCounted}
-use Rattle.promises.proofs.Taken.{Bookable, Pollable, Led, open-taken, open-kept, book-taken, book-kept, poll-taken, poll-kept, write-words}
+use Rattle.promises.proofs.Taken.{Bookable, Pollable, Led, open-taken, open-kept, book-taken, book-kept, poll-taken, poll-kept, write-words, read-taken, read-kept}
+use Rattle.promises.proofs.Good.{replay-taken}
+use Rattle.promises.proofs.Rebooked.{rebook-taken}
+use Rattle.promises.proofs.Repolled.{votes-decide, polled-as, repoll-taken}
 use Rattle.promises.proofs.BookedWords.{bookings-booked, polls-booked, confidenceOf-booked-same}
 use Rattle.promises.proofs.BookedRecords.{confidenceOf-booked-old}
 use Rattle.promises.proofs.Booked.{booked-ledger, booked-grown, booked-led}
@@ -59,7 +72,7 @@ use Rattle.promises.proofs.Grown.{
   counted-above,
 }
 
--- ---- what is right of a station after an opening
+-- ---- what is right of a station after an opening or a reading
 
 pub record Right (w : List ℕ) (h : History) : Type 0 where
   pub ledger : Ledger w
@@ -218,6 +231,73 @@ book-right : (w : List ℕ) (h : History) (name slot : ℕ) (parents : List ℕ)
 book-right w h name slot parents true t right = let o = book-taken w name slot parents t in right-words (o .2) (booked-right w h right name slot parents (o .1))
 book-right w h name slot parents false t right = right-words (book-kept w name slot parents t) right
 
+poll-right : (w : List ℕ) (h : History) (name : ℕ) (votes : List ℕ) → isTaken (pollCall w name votes .answer) ≡ true
+    → Right w h → Right (pollCall w name votes .words) (withPoll (isSuccess w votes) (numberOf (lookUp w name)) h)
+poll-right w h name votes t right =
+    let o = poll-taken w name votes t in right-words (o .2) (polled-right w h right (numberOf (lookUp w name)) votes (o .1))
+
+-- ---- a taken reading: its opening, its bookings and its polls, one call after the other
+
+-- calls in order keep what each of them keeps, as long as they are taken, where others are to come
+in-order-kept : {A : Type 0} (call : A → List ℕ → Outcome) (Keeps : List A → List ℕ → Type 0)
+    → ((x : A) (rest : List A) (w : List ℕ) → Keeps (x ∷ rest) w → isTaken (call x w .answer) ≡ true → Keeps rest (call x w .words))
+    → (xs : List A) (o : Outcome) → (isTaken (o .answer) ≡ true → Keeps xs (o .words))
+    → isTaken (inOrder call xs o .answer) ≡ true → Keeps [] (inOrder call xs o .words)
+unfolding inOrder
+in-order-kept call Keeps each [] o kept taken = kept taken
+in-order-kept call Keeps each (x ∷ xs) o kept taken =
+    in-order-kept call Keeps each xs (following (o .answer) (o .words) (call x)) (go (o .answer) (o .words) kept) taken
+  where
+    go : (a : Answer) (w : List ℕ) → (isTaken a ≡ true → Keeps (x ∷ xs) w) → isTaken (following a w (call x) .answer) ≡ true
+        → Keeps xs (following a w (call x) .words)
+    go (Taken v) w k t = each x xs w (k refl) t
+    go (Refused r) w k t = absurd (true≢false (sym t))
+
+-- a day's booking again
+rebook-right : (h : History) (b : DayBooking) (w : List ℕ) → Right w h → isTaken (rebookBy testOf b w .answer) ≡ true → Right (rebookBy testOf b w .words) h
+rebook-right h b w right taken =
+    let r = rebook-taken b w taken in right-words (r .words) (booked-right w h right (b .name) (b .slot) (namesOf w (b .parents)) (r .able))
+
+-- a day's poll again: its votes bring its outcome about
+repoll-right : (h : History) (q : DayPoll) (w : List ℕ) → Right w h → isTaken (repollBy testOf q w .answer) ≡ true
+    → Right (repollBy testOf q w .words) (withPoll (q .success) (q .booking) h)
+repoll-right h q w right taken =
+    let r = repoll-taken q w taken in
+    let votes : List ℕ = votesFor w (q .success) in
+    let good = right .ledger .sound .setting in
+    right-words (r .words ∙ sym (polled-as w good (q .booking) (q .success)))
+    (subst (λ s. Right (polled w (q .booking) votes) (withPoll s (q .booking) h)) (votes-decide w good (q .success))
+    (polled-right w h right (q .booking) votes (r .able)))
+
+-- words that are right of some of a day's polls, where the others are to come
+record Awaits (all : History) (rest : List DayPoll) (w : List ℕ) : Type 0 where
+  history : History
+  right : Right w history
+  whole : withPolls rest history ≡ all
+
+replay-right : (d : Day) → isTaken (replay d .answer) ≡ true → Right (replay d .words) (withPolls (d .polls) fresh)
+unfolding replay withPolls
+replay-right d taken =
+    let open-words : List ℕ = replicate size 0 in
+    let booked : Outcome = inOrder (rebookBy testOf) (d .bookings) (openCall open-words (d .setting)) in
+    let booked-right : isTaken (booked .answer) ≡ true → Right (booked .words) fresh =
+    in-order-kept (rebookBy testOf) (λ rest w. Right w fresh) (λ b rest w right t. rebook-right fresh b w right t) (d .bookings)
+    (openCall open-words (d .setting)) (opening-right open-words (d .setting)) in
+    let ends : Awaits (withPolls (d .polls) fresh) [] (replay d .words) =
+    in-order-kept (repollBy testOf) (Awaits (withPolls (d .polls) fresh))
+    (λ q rest w awaits t. record {
+      history = withPoll (q .success) (q .booking) (awaits .history);
+      right = repoll-right (awaits .history) q w (awaits .right) t;
+      whole = awaits .whole;
+    })
+    (d .polls) booked (λ t. record { history = fresh; right = booked-right t; whole = refl }) taken in
+    subst (Right (replay d .words)) (ends .whole) (ends .right)
+
+pub reading-right : (w file : List ℕ) → isTaken (readFirstCall w file .answer) ≡ true → Right (readFirstCall w file .words) (withPolls (decode file .polls) fresh)
+reading-right w file t = let o = read-taken w file t in right-words (o .2) (replay-right (decode file) (replay-taken file (o .1)))
+
+-- ---- every call
+
 pub step-right : (c : Call) (w : List ℕ) (h : History) → Right w h → Right (outcomeOf c w .words) (historyAfter c w h)
 unfolding outcomeOf historyAfter
 step-right (Open s) w h right =
@@ -225,10 +305,23 @@ step-right (Open s) w h right =
 step-right (Book name slot parents) w h right = book-right w h name slot parents (isTaken (bookCall w name slot parents .answer)) refl right
 step-right (Poll name votes) w h right =
     by-taken Right (pollCall w name votes .words) (withPoll (isSuccess w votes) (numberOf (lookUp w name)) h) h (isTaken (pollCall w name votes .answer))
-    (λ t. let o = poll-taken w name votes t in right-words (o .2) (polled-right w h right (numberOf (lookUp w name)) votes (o .1)))
+    (λ t. poll-right w h name votes t right)
     (λ f. right-words (poll-kept w name votes f) right)
 step-right (Ask what name) w h right = right
 step-right (WriteFirst buffer) w h right = right-words (write-words w buffer) right
+step-right (ReadFirst file) w h right =
+    by-taken Right (readFirstCall w file .words) (withPolls (decode file .polls) fresh) h (isTaken (readFirstCall w file .answer)) (reading-right w file)
+    (λ f. right-words (read-kept w file f) right)
+
+-- a taken opening or reading makes it right, whatever the words and the history were
+pub made-right : (c : Call) (w : List ℕ) (h : History) → opens c ≡ true → isTaken (outcomeOf c w .answer) ≡ true → Right (outcomeOf c w .words) (historyAfter c w h)
+unfolding outcomeOf historyAfter
+made-right (Open s) w h m t = rw t (opening-right w s t)
+made-right (Book name slot parents) w h m t = absurd (true≢false (sym m))
+made-right (Poll name votes) w h m t = absurd (true≢false (sym m))
+made-right (Ask what name) w h m t = absurd (true≢false (sym m))
+made-right (WriteFirst buffer) w h m t = absurd (true≢false (sym m))
+made-right (ReadFirst file) w h m t = rw t (reading-right w file t)
 
 run-right : (calls : List Call) (t : Station) → Right (t .words) (t .history) → Right (run calls t .words) (run calls t .history)
 unfolding run
@@ -236,8 +329,7 @@ run-right [] t right = right
 run-right (c ∷ calls) t right = run-right calls (step c t) (step-right c (t .words) (t .history) right)
 
 after-right : (o : Opening) (calls : List Call) → Right (after o calls .words) (after o calls .history)
-after-right o calls =
-    run-right calls (record { words = openCall (o .words) (o .setting) .words; history = fresh }) (opening-right (o .words) (o .setting) (o .taken))
+after-right o calls = run-right calls (step (o .call) (record { words = o .words; history = fresh })) (made-right (o .call) (o .words) fresh (o .makes) (o .taken))
 
 -- ---- the promises of demand 3
 

@@ -1,7 +1,7 @@
 -- What a taken call has passed: each of its tests failed, so the fact that each refusal would deny holds, and its words are the rule's.
 -- What a refused call leaves: every word, and every byte. What writing leaves in any case: every word. Assumes nothing.
 use mathlib.Core.Path.{_≡_, refl, sym, ap}
-use mathlib.Core.Bool.{Bool, true, false, cond, true≢false}
+use mathlib.Core.Bool.{Bool, true, false, not, cond, true≢false}
 use mathlib.Core.List.{List}
 use mathlib.Core.Logic.{_≢_}
 use Prim.Native.Nat.{ℕ, _<_, _≤_}
@@ -9,7 +9,7 @@ use native.Mathlib.Omega.{arith}
 use lib.IntN.{ℤ, pos}
 use lib.ListN.{length, getD}
 use lib.Dec.{eqb, leb, ltb}
-use borrow.Author.Tests.{eqb-true, eqb-false, leb-false, ltb-false, not-false}
+use borrow.Author.Tests.{eqb-true, eq-eqb, eqb-false, leb-false, ltb-false, not-false}
 use Rattle.loops.proofs.Bools.{neither}
 use Rattle.loops.specs.Search.{any}
 use Rattle.loops.proofs.Search.{none→}
@@ -21,7 +21,7 @@ use Rattle.terms.specs.declared.answer.Tested.{Tested}
 use Rattle.terms.specs.declared.answer.Tested.the-variants.{Fine, Stop}
 use Rattle.terms.specs.declared.answer.Answer.{Answer}
 use Rattle.terms.specs.declared.answer.Answer.the-variants.{Taken, Refused}
-use Rattle.terms.specs.Answers.{number, value, leaves}
+use Rattle.terms.specs.Answers.{number, value, outcome, leaves, isTaken, done}
 use Rattle.rules.specs.Layout.{size, mostBookings, mostParents, slots, bookings, nameOf, stateOf, slotOf, confidenceOf, preferredIn}
 use Rattle.terms.specs.Setting.{Good}
 use Rattle.rules.specs.Sound.{Ledger}
@@ -30,12 +30,13 @@ use Rattle.rules.specs.Book.{lookUp, numberOf, hasUnknown, hasTwice, booked}
 use Rattle.rules.specs.Poll.{polled}
 use Rattle.rules.specs.Calls.{openAnswer, openCall, testOf, unlessStopped, tested, bookAnswer, bookCall, askedOf, pollAnswer, pollCall, readingCall}
 use Rattle.day_file.specs.Bytes.{dayFile}
-use Rattle.day_file.specs.Calls.{laid, writeFirstAnswer, writeFirstCall}
-use Rattle.rule_laws.proofs.Calls.{handsOver-answer, handsOver-words, handsOver-refused, number-refused, open-refused, book-refused, poll-refused}
+use Rattle.day_file.specs.Decode.{decode}
+use Rattle.day_file.specs.Replay.{replay, goodFile}
+use Rattle.day_file.specs.Calls.{laid, writeFirstAnswer, writeFirstCall, readFirstAnswer, readFirstCall}
+use Rattle.rule_laws.proofs.Calls.{Unmoved, poll-value, leaves-answer, leaves-refused, handsOver-answer, handsOver-words, handsOver-refused, number-refused, open-refused, book-refused, poll-refused}
 use Rattle.rule_laws.proofs.Good.{isGood→Good}
 use Rattle.rule_laws.proofs.Tested.{fine-ledger}
 use Rattle.rule_laws.proofs.Lookup.{isFound-false, absent-name, found-below}
-use Rattle.promises.specs.Run.{isTaken}
 
 -- a booking that no refusal stops
 pub record Bookable (w : List ℕ) (name slot : ℕ) (parents : List ℕ) : Type 0 where
@@ -80,6 +81,13 @@ book-kept w name slot parents e = book-refused w name slot parents (untaken (boo
 pub poll-kept : (w : List ℕ) (name : ℕ) (votes : List ℕ) → isTaken (pollCall w name votes .answer) ≡ false → pollCall w name votes .words ≡ w
 poll-kept w name votes e = poll-refused w name votes (untaken (pollCall w name votes .answer) e) .words
 
+pub read-refused : (w file : List ℕ) → number (readFirstCall w file .answer) ≢ 0 → Unmoved w (readFirstCall w file)
+unfolding readFirstCall
+read-refused w file = leaves-refused (readFirstAnswer goodFile w file) w _
+
+pub read-kept : (w file : List ℕ) → isTaken (readFirstCall w file .answer) ≡ false → readFirstCall w file .words ≡ w
+read-kept w file e = read-refused w file (untaken (readFirstCall w file .answer) e) .words
+
 pub write-refused : (w buffer : List ℕ) → number (writeFirstCall w buffer .answer) ≢ 0 → writeFirstCall w buffer .lent ≡ buffer
 unfolding writeFirstCall
 write-refused w buffer = handsOver-refused (writeFirstAnswer testOf w buffer) w buffer _
@@ -113,7 +121,7 @@ unfolding hasTwice
 distinct-names parents e a b l h =
     eqb-false _ _ (none→ (λ c. eqb (getD parents c 0) (getD parents b 0)) b (none→ (λ d. any (λ c. eqb (getD parents c 0) (getD parents d 0)) d) (length parents) e b h) a l)
 
--- ---- open, book, poll, the readings and writing, taken
+-- ---- open, book, poll, the readings, writing and reading a file, taken
 
 pub open-taken : (w : List ℕ) (s : Setting) → isTaken (openCall w s .answer) ≡ true → (length w ≡ size) × Good s × (openCall w s .words ≡ opened s)
 unfolding openCall
@@ -161,6 +169,15 @@ poll-taken w name votes e =
     let waiting = passed _ _ _ (found .1) in
     (ledger .0, record { below = found-below w name _ (found .0); waiting = eqb-true _ _ (not-false _ (waiting .0)) }, taken .2)
 
+-- its answer has value 0
+taken-done : (a : Answer) → isTaken a ≡ true → (number a ≡ 0 → value a ≡ pos 0) → a ≡ done
+taken-done (Taken v) e h = ap Taken (h refl)
+taken-done (Refused r) e h = absurd (true≢false (sym e))
+
+pub poll-outcome : (w : List ℕ) (name : ℕ) (votes : List ℕ) → isTaken (pollCall w name votes .answer) ≡ true
+    → pollCall w name votes ≡ outcome done (polled w (numberOf (lookUp w name)) votes)
+poll-outcome w name votes e = λ i. outcome (taken-done (pollCall w name votes .answer) e (poll-value w name votes) i) (poll-taken w name votes e .2 i)
+
 pub reading-taken : (f : ℕ → ℤ) (w : List ℕ) (name : ℕ) (v : ℤ) → readingCall f w name ≡ Taken v
     → Ledger w × (lookUp w name ≡ At (numberOf (lookUp w name))) × (f (numberOf (lookUp w name)) ≡ v)
 reading-taken f w name v e =
@@ -180,3 +197,29 @@ write-taken w buffer =
         let room = passed (ltb (length buffer) (length (dayFile w))) _ _ (ledger .1) in
         (ledger .0, ap value (sym (room .1)))
     go (Refused r) e z = absurd (number-refused r z)
+
+pub read-taken : (w file : List ℕ) → isTaken (readFirstCall w file .answer) ≡ true
+    → (length w ≡ size) × (goodFile file ≡ true) × (readFirstCall w file .words ≡ replay (decode file) .words)
+unfolding readFirstCall
+read-taken w file e =
+    let taken = leaves-taken (readFirstAnswer goodFile w file) w (replay (decode file) .words) e in
+    let long = passed _ _ _ (taken .1) in
+    let good = passed _ _ _ (long .1) in
+    (eqb-true _ _ (not-false _ (long .0)), not-false _ (good .0), taken .2)
+
+-- a good file is read into any words of the right length, whatever they are
+pub read-outcome : (w file : List ℕ) → length w ≡ size → goodFile file ≡ true → readFirstCall w file ≡ outcome done (replay (decode file) .words)
+unfolding readFirstCall
+read-outcome w file whole good = rw (eq-eqb (length w) size whole, good)
+
+pub read-given : (w file : List ℕ) → length w ≡ size → goodFile file ≡ true → isTaken (readFirstCall w file .answer) ≡ true
+read-given w file whole good = ap (λ o. isTaken (o .answer)) (read-outcome w file whole good)
+
+pub read-value : (w file : List ℕ) → number (readFirstCall w file .answer) ≡ 0 → value (readFirstCall w file .answer) ≡ pos 0
+unfolding readFirstCall
+read-value w file = rw (leaves-answer (readFirstAnswer goodFile w file) w (replay (decode file) .words)) (go (not (eqb (length w) size)) (not (goodFile file)))
+  where
+    go : (long bad : Bool) → let a = cond long (Refused Refusal.WrongLength) (cond bad (Refused Refusal.BadFile) done) in number a ≡ 0 → value a ≡ pos 0
+    go true bad z = refl
+    go false true z = refl
+    go false false z = refl

@@ -1,7 +1,7 @@
 -- CR 2: what the call that writes the day file leaves, how long a file is, and what it carries. Which bytes it has stands in day_file/specs/Bytes.antt.
 use mathlib.Core.Path.{_≡_}
 use mathlib.Core.List.{List}
-use Prim.Native.Nat.{ℕ, _+_, _*_, _-_, _<_, _≤_}
+use Prim.Native.Nat.{ℕ, _+_, _*_, _-_, _^_, _<_, _≤_}
 use lib.IntN.{ℤ, pos}
 use lib.ListN.{length, getD}
 use Rattle.loops.specs.Total.{total}
@@ -43,9 +43,13 @@ FileCounted = (w : List ℕ) → length (dayFile w) ≡ 14 + total (λ j. 12 + 2
 unfoldable pub FileLength : Type 0
 FileLength = (w : List ℕ) → Ledger w → (14 ≤ length (dayFile w)) × (length (dayFile w) ≤ 12266)
 
--- lent words have 16 bits. Soundness bounds what else a file carries, but not the four words of a name
-abbrev pub Words16 : List ℕ → Type 0
-Words16 w = (k : ℕ) → getD w k 0 < 65536
+-- a name has 64 bits. Soundness bounds what else a file carries, but not the four words of a name
+abbrev pub Names64 : List ℕ → Type 0
+Names64 w = (i : ℕ) → i < bookings w → nameOf w i < 2 ^ 64
+
+-- lent words have such names, being of 16 bits
+unfoldable pub WordsNamed : Type 0
+WordsNamed = (w : List ℕ) → ((k : ℕ) → getD w k 0 < 65536) → Names64 w
 
 -- two ledgers with the same setting, the same bookings, and the same polls in the same order with the same outcomes
 pub record SameDay (w u : List ℕ) : Type 0 where
@@ -62,7 +66,7 @@ pub record SameDay (w u : List ℕ) : Type 0 where
 
 -- a file tells the ledger's day: two ledgers that give the same bytes have it in common
 unfoldable pub SameFile : Type 0
-SameFile = (w u : List ℕ) → Ledger w → Ledger u → Words16 w → Words16 u → dayFile w ≡ dayFile u → SameDay w u
+SameFile = (w u : List ℕ) → Ledger w → Ledger u → Names64 w → Names64 u → dayFile w ≡ dayFile u → SameDay w u
 
 -- and it tells nothing else: whatever confidences, preferred and last bookings and counters are, the same day gives the same bytes
 unfoldable pub SameDayFile : Type 0

@@ -3,9 +3,10 @@ pub mod Run
 pub mod Soundness
 pub mod Acceptance
 pub mod Damage
-pub mod Refusals
 pub mod Confidence
 pub mod Lasting
 pub mod Ranges
 pub mod Told
 pub mod DayFile
+pub mod ReadFile
+pub mod Refusals

@@ -6,7 +6,7 @@ use Prim.Native.Nat.{ℕ, _≤_}
 use lib.IntN.{ℤ, pos, natAbs}
 use Rattle.terms.specs.Answers.{number, value}
 use Rattle.rules.specs.Calls.{queryCall, acceptedCall, leadCall, confidenceCall, sizeCall}
-use Rattle.day_file.specs.Calls.{writeFirstCall}
+use Rattle.day_file.specs.Calls.{writeFirstCall, readFirstCall}
 use Rattle.promises.specs.Run.{Call, outcomeOf}
 
 -- z is one of the numbers from least to most
@@ -16,9 +16,9 @@ pub record Between (least most : ℕ) (z : ℤ) : Type 0 where
   pub above : least ≤ number
   pub below : number ≤ most
 
--- the answers of any call on any words: a refusal's value is 0 or a row, and each reading that is taken, and a written file's length, has its own range
+-- the answers of any call on any words. A refusal's value is 0 or a row; each taken reading, and a written file's length, has its range; a file is read with value 0
 pub record Ranges : Type 0 where
-  pub numbers : (c : Call) (w : List ℕ) → number (outcomeOf c w .answer) ≤ 16
+  pub numbers : (c : Call) (w : List ℕ) → number (outcomeOf c w .answer) ≤ 17
   pub refused : (c : Call) (w : List ℕ) → number (outcomeOf c w .answer) ≢ 0 → Between 0 512 (value (outcomeOf c w .answer))
   pub query : (w : List ℕ) (name : ℕ) → number (queryCall w name) ≡ 0 → Between 0 1 (value (queryCall w name))
   pub accepted : (w : List ℕ) (name : ℕ) → number (acceptedCall w name) ≡ 0 → Between 0 1 (value (acceptedCall w name))
@@ -26,3 +26,4 @@ pub record Ranges : Type 0 where
   pub confidence : (w : List ℕ) (name : ℕ) → number (confidenceCall w name) ≡ 0 → Between 0 511 (value (confidenceCall w name))
   pub size : (w : List ℕ) (name : ℕ) → number (sizeCall w name) ≡ 0 → Between 1 512 (value (sizeCall w name))
   pub writing : (w buffer : List ℕ) → number (writeFirstCall w buffer .answer) ≡ 0 → Between 14 12266 (value (writeFirstCall w buffer .answer))
+  pub readingFile : (w file : List ℕ) → number (readFirstCall w file .answer) ≡ 0 → value (readFirstCall w file .answer) ≡ pos 0

@@ -15,9 +15,10 @@ use Rattle.rules.specs.RowRules.{HeaderRules, RecordRules, SlotRules}
 use Rattle.rules.specs.Calls.{openCall, bookCall, pollCall, readCall}
 use Rattle.rules.specs.Listing.{listCall}
 use Rattle.day_file.specs.Bytes.{dayFile}
-use Rattle.day_file.specs.Calls.{writeFirstCall}
+use Rattle.day_file.specs.Calls.{writeFirstCall, readFirstCall}
 use Rattle.promises.specs.Run.{Call, outcomeOf, lentBy, lentAfter}
 use Rattle.promises.specs.Damage.{Broken}
+use Rattle.promises.specs.ReadFile.{Writable}
 
 -- ---- a refused call changes nothing, neither the words nor the buffer lent besides, and has value 0; with 14 and 15 Damage.antt says what the value is
 
@@ -88,7 +89,7 @@ damagedListed w rest =
     (refuses 15 (Broken (SlotRules w) slots)
     rest))
 
--- 1 and these, which every call but open begins with
+-- 1 and these, which every call but opening and reading a file begins with
 abbrev pub testedListed : List ℕ → (ℕ → Type 0) → ℕ → Type 0
 testedListed w rest =
     refuses 1 (length w ≢ size)
@@ -122,10 +123,17 @@ ReadingListed w name =
     taken)
 
 -- 16: the buffer is shorter than the file
-abbrev pub WriteListed : List ℕ → List ℕ → ℕ → Type 0
-WriteListed w buffer =
+abbrev pub WriteFileListed : List ℕ → List ℕ → ℕ → Type 0
+WriteFileListed w buffer =
     testedListed w
     (refuses 16 (length buffer < length (dayFile w))
+    taken)
+
+-- 17: no run of taken calls writes the file. The words need only be of the right length
+abbrev pub ReadFileListed : List ℕ → List ℕ → ℕ → Type 0
+ReadFileListed w file =
+    refuses 1 (length w ≢ size)
+    (refuses 17 (Writable file → ⊥)
     taken)
 
 -- list may be refused with 1, 2, 14 or 15 only
@@ -139,5 +147,6 @@ pub record RefusedListed : Type 0 where
   pub booking : (w : List ℕ) (name slot : ℕ) (parents : List ℕ) → BookListed w name slot parents (number (bookCall w name slot parents .answer))
   pub polling : (w : List ℕ) (name : ℕ) (votes : List ℕ) → PollListed w name votes (number (pollCall w name votes .answer))
   pub reading : (what : Reading) (w : List ℕ) (name : ℕ) → ReadingListed w name (number (readCall what w name))
-  pub writing : (w buffer : List ℕ) → WriteListed w buffer (number (writeFirstCall w buffer .answer))
+  pub writing : (w buffer : List ℕ) → WriteFileListed w buffer (number (writeFirstCall w buffer .answer))
+  pub readingFile : (w file : List ℕ) → ReadFileListed w file (number (readFirstCall w file .answer))
   pub list : (w : List ℕ) → ListListed w (number (listCall w))

@@ -1,25 +1,26 @@
--- Runs: any calls, in any order and with any arguments, after a taken opening.
+-- Runs: any calls, in any order and with any arguments, after a taken opening or a file that was read.
 use Prim.Native.Nat.{ℕ, _+_}
 use mathlib.Core.Path.{_≡_}
 use mathlib.Core.Bool.{Bool, true, false, cond}
 use mathlib.Core.List.{List, [], _∷_}
 use Rattle.terms.specs.declared.setting.Setting.{Setting}
 use Rattle.terms.specs.declared.answer.Reading.{Reading}
-use Rattle.terms.specs.declared.answer.Answer.{Answer}
-use Rattle.terms.specs.declared.answer.Answer.the-variants.{Taken, Refused}
-use Rattle.terms.specs.Answers.{Outcome, outcome}
+use Rattle.terms.specs.Answers.{Outcome, outcome, isTaken}
 use Rattle.rules.specs.Book.{lookUp, numberOf}
 use Rattle.rules.specs.Poll.{isSuccess}
 use Rattle.rules.specs.Calls.{openCall, bookCall, pollCall, readCall}
-use Rattle.day_file.specs.Calls.{writeFirstCall}
+use Rattle.day_file.specs.Day.{DayPoll}
+use Rattle.day_file.specs.Decode.{decode}
+use Rattle.day_file.specs.Calls.{writeFirstCall, readFirstCall}
 
--- the nine calls: five of them are readings
+-- the ten calls; the five that Ask has are the readings
 pub data Call : Type 0 where
   Open : Setting → Call
   Book : (name slot : ℕ) (parents : List ℕ) → Call
   Poll : (name : ℕ) (votes : List ℕ) → Call
   Ask : (what : Reading) (name : ℕ) → Call
   WriteFirst : (buffer : List ℕ) → Call
+  ReadFirst : (file : List ℕ) → Call
 
 -- what a call gives on the words w
 unfoldable pub outcomeOf : Call → List ℕ → Outcome
@@ -28,6 +29,16 @@ outcomeOf (Book name slot parents) w = bookCall w name slot parents
 outcomeOf (Poll name votes) w = pollCall w name votes
 outcomeOf (Ask what name) w = outcome (readCall what w name) w
 outcomeOf (WriteFirst buffer) w = outcome (writeFirstCall w buffer .answer) (writeFirstCall w buffer .words)
+outcomeOf (ReadFirst file) w = readFirstCall w file
+
+-- whether the call makes a new ledger of whatever the words were: opening does, and reading a file
+abbrev pub opens : Call → Bool
+opens (Open s) = true
+opens (Book name slot parents) = false
+opens (Poll name votes) = false
+opens (Ask what name) = false
+opens (WriteFirst buffer) = false
+opens (ReadFirst file) = true
 
 -- ---- one call is lent a buffer to write into, beside the words; for the others it is empty
 
@@ -38,6 +49,7 @@ lentBy (Book name slot parents) = []
 lentBy (Poll name votes) = []
 lentBy (Ask what name) = []
 lentBy (WriteFirst buffer) = buffer
+lentBy (ReadFirst file) = []
 
 -- what a call on the words w leaves in it
 unfoldable pub lentAfter : Call → List ℕ → List ℕ
@@ -46,10 +58,7 @@ lentAfter (Book name slot parents) w = []
 lentAfter (Poll name votes) w = []
 lentAfter (Ask what name) w = []
 lentAfter (WriteFirst buffer) w = writeFirstCall w buffer .lent
-
-abbrev pub isTaken : Answer → Bool
-isTaken (Taken v) = true
-isTaken (Refused r) = false
+lentAfter (ReadFirst file) w = []
 
 -- ---- the history: the bookings of the successful polls, newest first, and how many polls were taken. Which polls succeed is the
 -- law's own test of the votes, `isSuccess`
@@ -65,7 +74,12 @@ fresh = record { successes = []; taken = 0 }
 abbrev pub withPoll : Bool → ℕ → History → History
 withPoll success i h = record { successes = cond success (i ∷ h .successes) (h .successes); taken = h .taken + 1 }
 
--- it restarts at each taken opening, and refused calls leave it alone
+-- with the polls of a day, in their order
+unfoldable pub withPolls : List DayPoll → History → History
+withPolls [] h = h
+withPolls (q ∷ qs) h = withPolls qs (withPoll (q .success) (q .booking) h)
+
+-- it restarts at each taken opening, and with the file's polls where a file is read; refused calls leave it alone
 unfoldable pub historyAfter : Call → List ℕ → History → History
 historyAfter (Open s) w h = cond (isTaken (openCall w s .answer)) fresh h
 historyAfter (Book name slot parents) w h = h
@@ -73,6 +87,7 @@ historyAfter (Poll name votes) w h =
     cond (isTaken (pollCall w name votes .answer)) (withPoll (isSuccess w votes) (numberOf (lookUp w name)) h) h
 historyAfter (Ask what name) w h = h
 historyAfter (WriteFirst buffer) w h = h
+historyAfter (ReadFirst file) w h = cond (isTaken (readFirstCall w file .answer)) (withPolls (decode file .polls) fresh) h
 
 -- ---- runs
 
@@ -87,11 +102,23 @@ unfoldable pub run : List Call → Station → Station
 run [] t = t
 run (c ∷ cs) t = run cs (step c t)
 
--- the run of the calls after a taken opening, whatever the words were before it
+-- a taken opening, or a file that is read, whatever the words were before
 pub record Opening : Type 0 where
   pub words : List ℕ
-  pub setting : Setting
-  pub taken : isTaken (openCall words setting .answer) ≡ true
+  pub call : Call
+  pub makes : opens call ≡ true
+  pub taken : isTaken (outcomeOf call words .answer) ≡ true
 
+-- the run of the calls after it
 abbrev pub after : Opening → List Call → Station
-after o calls = run calls (record { words = openCall (o .words) (o .setting) .words; history = fresh })
+after o calls = run calls (step (o .call) (record { words = o .words; history = fresh }))
+
+-- each call of a run is taken
+unfoldable pub AllTaken : List Call → List ℕ → Type 0
+AllTaken [] w = Unit
+AllTaken (c ∷ cs) w = (isTaken (outcomeOf c w .answer) ≡ true) × AllTaken cs (outcomeOf c w .words)
+
+-- none of them makes a new ledger
+unfoldable pub NoneOpens : List Call → Type 0
+NoneOpens [] = Unit
+NoneOpens (c ∷ cs) = (opens c ≡ false) × NoneOpens cs

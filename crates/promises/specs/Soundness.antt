@@ -3,14 +3,13 @@ use mathlib.Core.Path.{_≡_}
 use mathlib.Core.Bool.{true}
 use Prim.Native.Nat.{ℕ}
 use mathlib.Core.List.{List}
-use Rattle.terms.specs.declared.setting.Setting.{Setting}
-use Rattle.rules.specs.Calls.{openCall}
+use Rattle.terms.specs.Answers.{isTaken}
 use Rattle.rules.specs.Sound.{Ledger}
-use Rattle.promises.specs.Run.{Call, outcomeOf, isTaken, Opening, after}
+use Rattle.promises.specs.Run.{Call, outcomeOf, opens, Opening, after}
 
--- a taken opening leaves a sound workspace, whatever was there before
+-- a taken opening, and a file that is read, leave a sound workspace, whatever was there before
 unfoldable pub OpenedSound : Type 0
-OpenedSound = (w : List ℕ) (s : Setting) → isTaken (openCall w s .answer) ≡ true → Ledger (openCall w s .words)
+OpenedSound = (c : Call) (w : List ℕ) → opens c ≡ true → isTaken (outcomeOf c w .answer) ≡ true → Ledger (outcomeOf c w .words)
 
 -- every call, taken or refused, leaves a sound workspace sound, whether or not a history reaches it
 unfoldable pub SoundKept : Type 0

@@ -26,6 +26,7 @@ use Rattle.terms.specs.declared.answer.Refusal.the-variants.{
   DamagedRecord,
   DamagedSlot,
   ShortBuffer,
+  BadFile,
 }
 use Rattle.terms.specs.declared.answer.Found.{Found}
 use Rattle.terms.specs.declared.answer.Found.the-variants.{At, Absent}
@@ -38,8 +39,8 @@ use Rattle.rules.specs.Calls.{openAnswer, openCall, testOf, unlessStopped, book
 
 -- ---- the number tells a refusal from a taken call
 
--- a refusal's number is 1 to 16
-pub refusalNumber-within : (r : Refusal) → (1 ≤ refusalNumber r) × (refusalNumber r ≤ 16)
+-- a refusal's number is 1 to 17
+pub refusalNumber-within : (r : Refusal) → (1 ≤ refusalNumber r) × (refusalNumber r ≤ 17)
 refusalNumber-within WrongLength = omega arith
 refusalNumber-within DamagedHeader = omega arith
 refusalNumber-within BadSetting = omega arith
@@ -56,6 +57,7 @@ refusalNumber-within BadVote = omega arith
 refusalNumber-within (DamagedRecord row) = omega arith
 refusalNumber-within (DamagedSlot row) = omega arith
 refusalNumber-within ShortBuffer = omega arith
+refusalNumber-within BadFile = omega arith
 
 pub number-refused : (r : Refusal) → number (Refused r) ≢ 0
 number-refused r e = omega (arith, refusalNumber-within r .0)
@@ -94,6 +96,7 @@ row-other BadVote h k = refl
 row-other (DamagedRecord row) h k = absurd (h refl)
 row-other (DamagedSlot row) h k = absurd (k refl)
 row-other ShortBuffer h k = refl
+row-other BadFile h k = refl
 
 -- the value of a refused call that names no row
 abbrev pub Valueless : Answer → Type 0

@@ -90,7 +90,7 @@ pub record Sound (w : List ℕ) : Type 0 where
   pub confidenceMost : (i : ℕ) → i < bookings w → confidenceOf w i ≤ chits w
   pub counterMost : (s : ℕ) → s < slots → counterIn w s ≤ chits w
 
--- a workspace of the right length that is sound: what every call but open works on once its refusals 1, 2, 14 and 15 are past
+-- a workspace of the right length that is sound: what every call that has refusals 1, 2, 14 and 15 works on once they are past
 pub record Ledger (w : List ℕ) : Type 0 where
   pub whole : length w ≡ size
   pub sound : Sound w

@@ -1,4 +1,4 @@
--- A search over none, one, two or three numbers, written out.
+-- A search over one, two or three numbers, written out.
 use mathlib.Core.Path.{_≡_, refl}
 use mathlib.Core.Bool.{Bool, true, false, _||_}
 use Prim.Native.Nat.{ℕ}
@@ -6,10 +6,6 @@ use lib.Dec.{ltb}
 use Rattle.loops.specs.Search.{firstFrom, any}
 
 module _ (p : ℕ → Bool) where
-  pub any-none : any p 0 ≡ false
-  unfolding firstFrom
-  any-none = refl
-
   pub any-one : any p 1 ≡ p 0
   unfolding firstFrom
   any-one = go (p 0)

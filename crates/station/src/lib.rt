@@ -4,7 +4,7 @@
 use terms::answer::Answer;
 use terms::setting::Setting;
 ghost use Rattle.rules.specs.Calls.{openCall, bookCall, pollCall, queryCall, acceptedCall, leadCall, confidenceCall, sizeCall};
-ghost use Rattle.day_file.specs.Calls.{writeFirstCall};
+ghost use Rattle.day_file.specs.Calls.{writeFirstCall, readFirstCall};
 ghost use Rattle.station.specs.Returned.{Returned, Handed, HandedOver};
 ghost use Rattle.terms.specs.Setting.{settingOf};
 
@@ -99,4 +99,12 @@ pub extern "C" fn filz_write_first(ws: &[u16], out: &mut [u8], value: &mut i64) 
     ensures { λ r. ⌜ HandedOver (writeFirstCall (now (ws .entry)) (now (out .entry))) r (now (value .exit)) (now (ws .entry)) (now (out .exit)) ⌝ }
 {
     tell(ledger::write_first(ws, out), value)
+}
+
+// The words become the ledger that a day file, in its first form, carries, whatever they held; no byte changes. Refusals 1, 17.
+#[no_mangle]
+pub extern "C" fn filz_read_first(ws: &mut [u16], file: &[u8], value: &mut i64) -> u32
+    ensures { λ r. ⌜ Handed (readFirstCall (now (ws .entry)) (now (file .entry))) r (now (value .exit)) (now (ws .exit)) ⌝ }
+{
+    tell(ledger::read_first(ws, file), value)
 }

@@ -1,5 +1,6 @@
 -- Document 01, "Numbers a caller gets back": the number and the value of every answer, and what a call leaves.
 use Prim.Native.Nat.{ℕ}
+use mathlib.Core.Bool.{Bool, true, false}
 use mathlib.Core.List.{List}
 use lib.IntN.{ℤ, pos}
 use Rattle.terms.specs.declared.answer.Refusal.{Refusal}
@@ -20,6 +21,7 @@ use Rattle.terms.specs.declared.answer.Refusal.the-variants.{
   DamagedRecord,
   DamagedSlot,
   ShortBuffer,
+  BadFile,
 }
 use Rattle.terms.specs.declared.answer.Answer.{Answer}
 use Rattle.terms.specs.declared.answer.Answer.the-variants.{Taken, Refused}
@@ -41,6 +43,7 @@ refusalNumber BadVote = 13
 refusalNumber (DamagedRecord row) = 14
 refusalNumber (DamagedSlot row) = 15
 refusalNumber ShortBuffer = 16
+refusalNumber BadFile = 17
 
 -- the lowest row that breaks a rule, where a record or a slot is damaged; 0 for every other refusal
 abbrev pub refusalRow : Refusal → ℕ
@@ -60,6 +63,7 @@ refusalRow BadVote = 0
 refusalRow (DamagedRecord row) = row
 refusalRow (DamagedSlot row) = row
 refusalRow ShortBuffer = 0
+refusalRow BadFile = 0
 
 -- a taken call returns 0 and its value, a refusal its number and its row
 abbrev pub number : Answer → ℕ
@@ -70,7 +74,12 @@ abbrev pub value : Answer → ℤ
 value (Taken v) = v
 value (Refused r) = pos (refusalRow r)
 
--- open, book and poll have value 0
+-- its number is 0
+abbrev pub isTaken : Answer → Bool
+isTaken (Taken v) = true
+isTaken (Refused r) = false
+
+-- open, book, poll and reading a file have value 0
 abbrev pub done : Answer
 done = Taken (pos 0)
 

@@ -2,7 +2,7 @@
 ghost use mathlib.Core.Path.{_≡_};
 ghost use Rattle.terms.specs.Answers.{number, refusalNumber, refusalRow, value};
 
-// Why a call was refused, in the order of the numbers 1 to 16. Damage of a record or a slot is named by the lowest
+// Why a call was refused, in the order of the numbers 1 to 17. Damage of a record or a slot is named by the lowest
 // row that breaks a rule.
 pub enum Refusal {
     WrongLength,
@@ -21,9 +21,10 @@ pub enum Refusal {
     DamagedRecord(u16),
     DamagedSlot(u16),
     ShortBuffer,
+    BadFile,
 }
 
-// Every call answers so. Open, book and poll are taken with value 0, and a file is written with its length.
+// Every call answers so. Open, book, poll and reading a file are taken with value 0, and a file is written with its length.
 pub enum Answer {
     Taken(i64),
     Refused(Refusal),
@@ -71,6 +72,7 @@ impl Refusal {
             Refusal::DamagedRecord(_) => 14,
             Refusal::DamagedSlot(_) => 15,
             Refusal::ShortBuffer => 16,
+            Refusal::BadFile => 17,
         }
     }
 
@@ -95,6 +97,7 @@ impl Refusal {
             Refusal::DamagedRecord(row) => row,
             Refusal::DamagedSlot(row) => row,
             Refusal::ShortBuffer => 0,
+            Refusal::BadFile => 0,
         }
     }
 }

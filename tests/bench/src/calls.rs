@@ -9,10 +9,13 @@
 use crate::ledgers::{case, SIZES};
 use random::call::{Call, Face, Second};
 use std::hint::black_box;
-use std::time::Instant;
+use std::time::{Duration, Instant};
 
 /// Calls timed, of which the middle one is reported.
 const SAMPLES: usize = 501;
+/// Where so much time has gone, this many are enough.
+const ENOUGH: usize = 101;
+const LONG: Duration = Duration::from_secs(5);
 /// Comparisons in one sample, as one is not much longer than the clock.
 const BATCH: usize = 8;
 
@@ -58,14 +61,18 @@ fn measure_case(kind: &'static str, n: usize, before: Option<&dyn Face>) -> Cost
     let (call, reading) = (&case.call, &case.reading());
     let sides: [(Option<&dyn Face>, &Call); 5] = [
         (OURS, call),
-        (before, call),
+        (before.filter(|face| face.has(kind)), call),
         (Some(&Second), call),
         (Some(&Second), call),
         (OURS, reading),
     ];
     let mut times: [Vec<f64>; 5] = Default::default();
     let mut memcmp = Vec::new();
+    let start = Instant::now();
     for turn in 0..SAMPLES {
+        if turn >= ENOUGH && start.elapsed() > LONG {
+            break;
+        }
         for place in 0..sides.len() {
             let who = (turn + place) % sides.len();
             if let (Some(face), call) = sides[who] {
@@ -115,7 +122,7 @@ pub fn middle(mut samples: Vec<f64>) -> f64 {
 }
 
 pub fn print(costs: &[Cost]) {
-    println!("calls: nanoseconds, the middle of {SAMPLES} calls, words warm");
+    println!("calls: nanoseconds, the middle of {SAMPLES} calls, or of {ENOUGH} where they take long, words warm");
     let clock = middle((0..SAMPLES).map(|_| timed(1, || ())).collect());
     println!("reading the clock costs {clock:.0}, and is in every call");
     println!("a reading is our confidence of the last booking on the same words\n");

@@ -3,8 +3,9 @@
 //! Every booking has the two before it as parents, so that the ancestry of
 //! the last is the whole ledger. Slots are taken in turn, names are spread
 //! over all 64 bits, the setting is the paper's, and every booking but the
-//! last has a chit. The day file is that of a ledger with four parents each
-//! and every booking polled: no file of so many bookings is longer.
+//! last has a chit. The day file, written or read, is that of a ledger with
+//! four parents each and every booking polled: no file of so many bookings is
+//! longer.
 
 use random::call::{Buffer, Call};
 use random::grow::words_of;
@@ -100,12 +101,17 @@ pub fn case(kind: &str, n: usize) -> Case {
                 votes: votes(),
             }
         }
-        "write_first" => {
+        "write_first" | "read_first" => {
             let ledger = booked(n, PARENTS, n);
             ws = words_of(&ledger);
-            let room = Day::of(&ledger).file().len();
+            let file = Day::of(&ledger).file();
+            let room = file.len();
             note = format!("{room} bytes: four parents each, all polled");
-            Call::WriteFirst(Buffer { room, seed: 0 })
+            if kind == "write_first" {
+                Call::WriteFirst(Buffer { room, seed: 0 })
+            } else {
+                Call::ReadFirst(file)
+            }
         }
         _ => {
             let reading = Reading::ALL.into_iter().find(|r| r.word() == kind);

@@ -17,7 +17,7 @@ const BOTTOM: f64 = 30.0;
 const HEAD: f64 = 46.0;
 /// The costs shown, as powers of ten of a nanosecond.
 const LOWEST: i32 = 1;
-const HIGHEST: i32 = 7;
+const HIGHEST: i32 = 8;
 
 pub fn draw(costs: &[Cost]) -> String {
     let rows = Call::KINDS.len().div_ceil(COLUMNS);
@@ -100,8 +100,8 @@ fn panel(svg: &mut String, x: f64, y: f64, kind: &str, costs: &[&Cost]) {
 }
 
 /// The powers of ten from the lowest to the highest.
-const UNITS: [&str; 7] = [
-    "10 ns", "100 ns", "1 µs", "10 µs", "100 µs", "1 ms", "10 ms",
+const UNITS: [&str; 8] = [
+    "10 ns", "100 ns", "1 µs", "10 µs", "100 µs", "1 ms", "10 ms", "100 ms",
 ];
 
 fn text(svg: &mut String, x: f64, y: f64, anchor: &str, words: &str) {

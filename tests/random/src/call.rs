@@ -20,6 +20,8 @@ pub enum Call {
     Read(Reading, u64),
     /// The day file, into the buffer.
     WriteFirst(Buffer),
+    /// The ledger, from these bytes.
+    ReadFirst(Vec<u8>),
 }
 
 /// A buffer to lend: how many bytes it has, and where they are drawn from.
@@ -43,7 +45,7 @@ impl Buffer {
 }
 
 impl Call {
-    pub const KINDS: [&'static str; 9] = [
+    pub const KINDS: [&'static str; 10] = [
         "open",
         "book",
         "poll",
@@ -53,6 +55,7 @@ impl Call {
         "confidence",
         "size",
         "write_first",
+        "read_first",
     ];
 
     pub fn kind(&self) -> &'static str {
@@ -62,6 +65,7 @@ impl Call {
             Call::Poll { .. } => "poll",
             Call::Read(reading, _) => reading.word(),
             Call::WriteFirst(_) => "write_first",
+            Call::ReadFirst(_) => "read_first",
         }
     }
 
@@ -69,21 +73,28 @@ impl Call {
     pub fn lines() -> impl Iterator<Item = &'static str> {
         Call::KINDS
             .into_iter()
-            .filter(|kind| *kind != "write_first")
+            .filter(|kind| !kind.ends_with("_first"))
     }
 
     /// Whether a taken call of this kind changes words.
     pub fn is_change(&self) -> bool {
         match self {
-            Call::Open(_) | Call::Book { .. } | Call::Poll { .. } => true,
+            Call::Open(_) | Call::Book { .. } | Call::Poll { .. } | Call::ReadFirst(_) => true,
             Call::Read(..) | Call::WriteFirst(_) => false,
         }
     }
 
-    /// The bytes that the call lends beside the words: mostly none.
+    /// Whether the call looks at nothing of the words but their number.
+    pub fn is_opening(&self) -> bool {
+        matches!(self, Call::Open(_) | Call::ReadFirst(_))
+    }
+
+    /// The bytes that the call lends beside the words: mostly none. A file is
+    /// read from there too, so that a byte of it that is written shows.
     pub fn lent_bytes(&self) -> Vec<u8> {
         match self {
             Call::WriteFirst(buffer) => buffer.bytes(),
+            Call::ReadFirst(file) => file.clone(),
             _ => Vec::new(),
         }
     }
@@ -93,6 +104,11 @@ impl Call {
 /// lends.
 pub trait Face {
     fn call(&self, ws: &mut [u16], out: &mut [u8], call: &Call) -> Answer;
+
+    /// Does it know this kind of call? An older build need not.
+    fn has(&self, _kind: &str) -> bool {
+        true
+    }
 }
 
 /// The second program.
@@ -110,6 +126,7 @@ impl Face for Second {
             Call::Poll { name, votes } => words::poll(ws, *name, votes),
             Call::Read(reading, name) => words::read(ws, *reading, *name),
             Call::WriteFirst(_) => words::write_first(ws, out),
+            Call::ReadFirst(_) => words::read_first(ws, out),
         }
     }
 }

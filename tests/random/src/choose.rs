@@ -2,10 +2,12 @@
 //! one meant for a certain refusal.
 
 use crate::call::{Buffer, Call};
+use crate::draft::Draft;
 use crate::file;
-use crate::grow::{good_setting, Style};
+use crate::grow::{good_setting, grow, Style};
 use crate::prng::Prng;
-use second::day::{LONGEST_FILE, SHORTEST_FILE};
+use crate::spoil::Kind;
+use second::day::{Day, LONGEST_FILE, SHORTEST_FILE};
 use second::layout::PARENTS;
 use second::ledger::{Ledger, Reading, State};
 use second::setting::Setting;
@@ -51,16 +53,46 @@ const AIMS: [(usize, Aim); 16] = [
 ];
 
 /// How many calls of a hundred write the day file.
-const WRITES: usize = 15;
+const WRITES: usize = 13;
+
+/// And how many read one: less where it is long, as it takes its time then.
+fn reads(ledger: &Ledger) -> usize {
+    if ledger.bookings.len() > 100 {
+        4
+    } else {
+        12
+    }
+}
 
 /// A call on the ledger. The style says which slots, parents and names are
-/// likely.
-pub fn choose(prng: &mut Prng, ledger: &Ledger, style: &Style) -> Call {
+/// likely; `written` is a file of an earlier moment, if there is one.
+pub fn choose(prng: &mut Prng, ledger: &Ledger, style: &Style, written: &[u8]) -> Call {
     if prng.chance(WRITES) {
         let room = any_room(prng, file::length(ledger));
         return write_into(prng, room);
     }
+    if prng.chance(reads(ledger)) {
+        return Call::ReadFirst(any_file(prng, ledger, style, written));
+    }
     choose_line(prng, ledger, style)
+}
+
+/// A file of this ledger, an earlier one, or one of another ledger; as it was
+/// written or spoiled.
+fn any_file(prng: &mut Prng, ledger: &Ledger, style: &Style, written: &[u8]) -> Vec<u8> {
+    let file = match prng.below(10) {
+        0..=4 => Day::of(ledger).file(),
+        5..=8 if !written.is_empty() => written.to_vec(),
+        _ => {
+            let n = prng.between(1, 9);
+            Day::of(&grow(prng, style.clone(), n).ledger).file()
+        }
+    };
+    if prng.chance(40) {
+        return file;
+    }
+    let kind = prng.pick(&Kind::ALL);
+    kind.spoil(prng, &Draft::of_file(&file))
 }
 
 /// The day file, into a buffer with so much room.

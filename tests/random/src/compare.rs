@@ -5,7 +5,7 @@
 //! has another length. After each call the numbers, the values, all words, the
 //! lent bytes and the guards are compared; on reached ledgers the laws are
 //! checked, the row named for damage is held to where it was done, and a day
-//! file is read back.
+//! file to the words. What a run starts from is written and read back.
 
 use crate::call::{Call, Face};
 use crate::choose::{choose, write_into};
@@ -13,14 +13,16 @@ use crate::damage::Damaged;
 use crate::file;
 use crate::grow::{any_size, grow, grow_longest, words_of, Style};
 use crate::guard::Guarded;
+use crate::made::{Made, Verdict};
 use crate::prng::Prng;
-use crate::report::{bytes_text, words_text};
+use crate::report::words_text;
 use crate::scramble::scramble;
-use crate::tally::{Tally, LAWS, REACHED, TOLD, UNREACHED};
+use crate::tally::{Tally, LAWS, REACHED, READ_BACK, TOLD, UNREACHED};
 use second::codec::decode;
 use second::laws::{check_accepted_once, History, Picture};
 use second::layout::WORDS;
 use second::ledger::{Ledger, Reading};
+use second::parse::parse;
 use second::sound::Damage;
 use second::words::Answer;
 use std::fmt::{self, Display, Formatter};
@@ -68,6 +70,8 @@ struct Contest<'a> {
     ws: Vec<u16>,
     /// What led to the words, if a history did.
     history: Option<History>,
+    /// The last file that was written of the run's own words.
+    written: Vec<u8>,
     /// The words that the run started from, and all that was done.
     start: Vec<u16>,
     steps: Vec<Step>,
@@ -110,6 +114,7 @@ impl<'a> Contest<'a> {
             start: ws.clone(),
             ws,
             history: is_reached.then_some(grown.history),
+            written: Vec::new(),
             steps: Vec::new(),
         }
     }
@@ -126,13 +131,17 @@ impl<'a> Contest<'a> {
     fn run(&mut self, prng: &mut Prng, tally: &mut Tally, calls: usize) -> Result<(), String> {
         for made in 0..calls {
             let ledger = decode(&self.ws).map_err(|damage| format!("unsound: {:?}", damage.0))?;
-            // Whatever a run starts from is written once.
+            // Whatever a run starts from is written once, and read once.
             if made == 0 {
                 let call = write_into(prng, file::length(&ledger));
                 self.step(ledger, &call, tally)?;
                 continue;
             }
-            let call = choose(prng, &ledger, &self.style);
+            if made == 1 {
+                self.read_back(prng, tally)?;
+                continue;
+            }
+            let call = choose(prng, &ledger, &self.style, &self.written);
             match prng.below(100) {
                 0..=3 => {
                     let resized = any_length(prng, &self.ws);
@@ -149,9 +158,10 @@ impl<'a> Contest<'a> {
     /// A call on the run's own words.
     fn step(&mut self, ledger: Ledger, call: &Call, tally: &mut Tally) -> Result<(), String> {
         let before = self.ws.clone();
-        let (answer, after) = self.both("own words", &before, Ok(ledger), call, tally)?;
-        self.ws = after;
-        if answer.0 != 0 {
+        let made = self.both("own words", &before, Ok(ledger), call, tally)?;
+        self.ws = made.words;
+        let (number, value) = made.our_answer;
+        if number != 0 {
             return Ok(());
         }
         match (call, &mut self.history) {
@@ -171,8 +181,34 @@ impl<'a> Contest<'a> {
                 Some(history),
             ) => history.booked(*name, *slot, parents),
             (Call::Poll { name, votes }, Some(history)) => history.polled(*name, votes),
+            // So does a reading, with the file's polls as its start.
+            (Call::ReadFirst(file), history) => {
+                let day = parse(file).expect("the file was taken");
+                let history = history.get_or_insert_with(History::default);
+                history.handed_over(&day);
+                self.style.setting = day.setting;
+            }
+            (Call::WriteFirst(_), _) => self.written = made.bytes[..value as usize].to_vec(),
             _ => (),
         }
+        Ok(())
+    }
+
+    /// The file of the run's words, read into any other words. It leads back
+    /// to every word that a history led to.
+    fn read_back(&mut self, prng: &mut Prng, tally: &mut Tally) -> Result<(), String> {
+        let call = Call::ReadFirst(self.written.clone());
+        let before = match prng.below(3) {
+            0 => vec![0; WORDS],
+            1 => (0..WORDS).map(|_| prng.draw() as u16).collect(),
+            _ => Damaged::any(prng, &self.ws).words,
+        };
+        let made = self.both("read back", &before, decode(&before), &call, tally)?;
+        if self.history.is_some() && made.words != self.ws {
+            let (words, meant) = (words_text(&made.words), words_text(&self.ws));
+            return Err(format!("a file read back gives {words}and not {meant}"));
+        }
+        tally.add(READ_BACK);
         Ok(())
     }
 
@@ -185,8 +221,10 @@ impl<'a> Contest<'a> {
             place,
         } = Damaged::any(prng, &self.ws);
         let verdict = decode(&words);
-        let (answer, _) = self.both("damaged", &words, verdict, call, tally)?;
-        let (Some(place), false) = (place, matches!(call, Call::Open(_))) else {
+        let answer = self
+            .both("damaged", &words, verdict, call, tally)?
+            .our_answer;
+        let (Some(place), false) = (place, call.is_opening()) else {
             return Ok(());
         };
         let refusal = place.refusal();
@@ -201,67 +239,25 @@ impl<'a> Contest<'a> {
         Ok(())
     }
 
-    /// Both faces make the call on these words; what they say and leave must
-    /// be the same.
+    /// Both faces make the call on these words.
     fn both(
         &mut self,
         note: &'static str,
         before: &[u16],
-        verdict: Result<Ledger, Damage>,
+        verdict: Verdict,
         call: &Call,
         tally: &mut Tally,
-    ) -> Result<(Answer, Vec<u16>), String> {
-        let lent = call.lent_bytes();
-        let (mut ours, mut our_bytes) = (Guarded::new(before), Guarded::new(&lent[..]));
-        let our_answer = self.ours.call(ours.lend(), our_bytes.lend(), call);
-        let (mut theirs, mut their_bytes) = (before.to_vec(), lent.clone());
-        let their_answer = self.theirs.call(&mut theirs, &mut their_bytes, call);
-
+    ) -> Result<Made, String> {
+        let made = Made::by(self.ours, self.theirs, before, call);
         self.steps.push(Step {
             note,
             call: call.clone(),
-            ours: our_answer,
-            theirs: their_answer,
+            ours: made.our_answer,
+            theirs: made.their_answer,
         });
-        let differs = |what: &str| {
-            let made = &self.steps[self.steps.len() - 1];
-            let text = |words, bytes| format!("{}{}", words_text(words), bytes_text(bytes));
-            let (before, ours) = (text(before, &lent), text(ours.lent(), our_bytes.lent()));
-            let theirs = text(&theirs, &their_bytes);
-            Err(format!(
-                "{what}\n{made}\nbefore: {before}\nours: {ours}\ntheirs: {theirs}"
-            ))
-        };
-        if our_answer != their_answer {
-            return differs("another answer");
-        }
-        if ours.lent() != theirs {
-            return differs("other words");
-        }
-        let mut pairs = our_bytes.lent().iter().zip(&their_bytes);
-        if let Some(at) = pairs.position(|(ours, theirs)| ours != theirs) {
-            return differs(&format!("other bytes, from {at} on"));
-        }
-        if !ours.is_intact() {
-            return differs("a word outside the lent ones was written");
-        }
-        if !our_bytes.is_intact() {
-            return differs("a byte outside the lent ones was written");
-        }
-        let may_change = our_answer.0 == 0 && call.is_change();
-        if !may_change && theirs != before {
-            return differs("a refused call or a reading changed a word");
-        }
-        if may_change && decode(&theirs).is_err() {
-            return differs("a taken call left unsound words");
-        }
-        if let Call::WriteFirst(_) = call {
-            if let Err(what) = check_bytes(our_answer, &lent, &their_bytes, before, &verdict) {
-                return differs(&what);
-            }
-        }
-        tally.add_call(call, our_answer, &verdict);
-        Ok((our_answer, theirs))
+        made.check(before, call, &verdict)?;
+        tally.add_call(call, made.our_answer, &verdict, &made.words);
+        Ok(made)
     }
 
     /// Who is accepted, and the laws of a history, or those of any sound
@@ -303,40 +299,6 @@ impl Display for Step {
         } = self;
         writeln!(f, "{note} {call:?}: ours {ours:?}, theirs {theirs:?}")
     }
-}
-
-/// Did writing the file of these words do what it has to, whoever else did
-/// the same? The buffer had the bytes `before` and has them `after`.
-fn check_bytes(
-    answer: Answer,
-    before: &[u8],
-    after: &[u8],
-    ws: &[u16],
-    verdict: &Result<Ledger, Damage>,
-) -> Result<(), String> {
-    let mut written = 0;
-    if let Ok(ledger) = verdict {
-        let (length, room) = (file::length(ledger), before.len());
-        let is_short = room < length;
-        let meant = if is_short {
-            (16, 0)
-        } else {
-            (0, length as i64)
-        };
-        written = if is_short { 0 } else { length };
-        if answer != meant {
-            return Err(format!(
-                "{length} bytes into {room}, answered {answer:?}, not {meant:?}"
-            ));
-        }
-    }
-    if after[written..] != before[written..] {
-        return Err("a byte was written that is none of the file".to_string());
-    }
-    if written > 0 {
-        file::check(&after[..written], ws)?;
-    }
-    Ok(())
 }
 
 /// Words of another length, at times one whose low sixteen bits are right.
@@ -394,11 +356,12 @@ mod tests {
         assert!(difference.is_none());
     }
 
-    /// Likewise a file that both write wrongly, and a buffer or words that
-    /// both leave changed.
+    /// Likewise a file that both write wrongly, a buffer or words that both
+    /// leave changed, and a file that both read wrongly.
     #[test]
-    fn a_wrong_file_that_both_write_is_found() {
-        for plant in Plant::FILE.into_iter().chain(Plant::WRITING) {
+    fn a_wrong_file_of_both_is_found() {
+        let writing = Plant::FILE.into_iter().chain(Plant::WRITING);
+        for plant in writing.chain(Plant::READING) {
             let both = Planted(Some(plant));
             let (_, difference) = compare(&both, &both, 10_000, 1);
             assert!(difference.is_some(), "{plant:?}");

@@ -54,14 +54,14 @@ pub fn check(file: &[u8], ws: &[u16]) -> Result<(), String> {
     Ok(())
 }
 
-struct Reader<'a> {
-    file: &'a [u8],
-    at: usize,
+pub struct Reader<'a> {
+    pub file: &'a [u8],
+    pub at: usize,
 }
 
 impl Reader<'_> {
     /// The number in so many bytes, the highest first.
-    fn number(&mut self, bytes: usize) -> Result<u64, String> {
+    pub fn number(&mut self, bytes: usize) -> Result<u64, String> {
         let Some(read) = self.file.get(self.at..self.at + bytes) else {
             return Err(format!("the file ends before byte {}", self.at + bytes));
         };

@@ -8,13 +8,20 @@
 //! - `grow`: ledgers that a history reaches
 //! - `scramble`: sound ledgers that no history reaches
 //! - `damage`: words that break sentences of soundness, and where
-//! - `file`: the day file read back
+//!
+//! Day files:
+//! - `file`: the day file held to the words
+//! - `draft`: a file as anybody may write one down
+//! - `spoil`: good files spoiled
+//! - `fault`: why a file is bad
 //!
 //! Call against call:
 //! - `call`: a call, and who answers it
 //! - `choose`: a call that shows something on a given ledger
 //! - `guard`: lent memory with guards around it
+//! - `made`: one call, made by both
 //! - `compare`: the runs
+//! - `files`: many files, read by both
 //! - `tally`: what the runs have reached
 //! - `written`: the same of day files
 //! - `station`: the product through its C face
@@ -22,6 +29,7 @@
 //! - `planted`: a copy of the rules with errors to be found
 //! - `misjudged`: the errors in what it says of damage
 //! - `miswritten`: the errors in the day files that it writes
+//! - `misread`: the errors in how it reads them
 //!
 //! Console against console:
 //! - `flaw`: lines that are no command
@@ -35,11 +43,16 @@ pub mod choose;
 pub mod compare;
 pub mod consoles;
 pub mod damage;
+pub mod draft;
+pub mod fault;
 pub mod file;
+pub mod files;
 pub mod flaw;
 pub mod grow;
 pub mod guard;
+pub mod made;
 pub mod misjudged;
+pub mod misread;
 pub mod miswritten;
 pub mod names;
 pub mod planted;
@@ -47,6 +60,7 @@ pub mod prng;
 pub mod relay;
 pub mod report;
 pub mod scramble;
+pub mod spoil;
 #[cfg(feature = "station")]
 pub mod station;
 pub mod tally;

@@ -1,8 +1,9 @@
 //! Random runs of the product against the second program.
 
 use random::call::{Face, Second};
-use random::compare;
+use random::compare::{self, Difference};
 use random::consoles::{self, Executable, MISREAD};
+use random::files;
 use random::planted::{Plant, Planted};
 use random::relay::Relay;
 use random::report;
@@ -16,6 +17,7 @@ random consoles COUNT [SEED] --ours PATH   our console against the second one
 random calls COUNT [SEED]                  our library against the second one
 random calls COUNT [SEED] --ours RELAY     the same, asked through a program
 random calls COUNT [SEED] --copy           a copy of the second one against it
+random files COUNT [SEED] [as for calls]   the same, reading day files
 random plant [COUNT] [SEED]                planted errors must be found";
 
 fn main() -> ExitCode {
@@ -70,7 +72,7 @@ impl Order {
         }
         match &order.what[..] {
             "consoles" => (numbers > 0 && order.ours.is_some()).then_some(order),
-            "calls" => (numbers > 0).then_some(order),
+            "calls" | "files" => (numbers > 0).then_some(order),
             "plant" => Some(order),
             _ => None,
         }
@@ -79,15 +81,22 @@ impl Order {
     fn run(&self) -> Result<(), String> {
         match &self.what[..] {
             "consoles" => self.consoles(),
-            "calls" if self.is_copy => self.calls(&Planted(None)),
-            "calls" => match &self.ours {
+            "plant" => self.plant(),
+            _ if self.is_copy => self.against(&Planted(None)),
+            _ => match &self.ours {
                 Some(program) => {
                     let relay = relay(program)?;
-                    self.calls(&relay).and_then(|()| relay.end())
+                    self.against(&relay).and_then(|()| relay.end())
                 }
-                None => self.calls(station()?),
+                None => self.against(station()?),
             },
-            _ => self.plant(),
+        }
+    }
+
+    fn against(&self, ours: &dyn Face) -> Result<(), String> {
+        match &self.what[..] {
+            "files" => self.files(ours),
+            _ => self.calls(ours),
         }
     }
 
@@ -113,15 +122,33 @@ impl Order {
 
     fn calls(&self, ours: &dyn Face) -> Result<(), String> {
         let (tally, difference) = compare::compare(ours, &Second, self.count, self.seed);
-        if let Some(difference) = difference {
-            let name = format!("calls-{}-{}.txt", self.seed, difference.run);
-            let written = report::write(&name, difference.text.as_bytes())
-                .map(|path| println!("the whole run: {}", path.display()));
-            return Err(told(written, &difference.text));
-        }
+        self.report(difference)?;
         judge(&tally, tally.missing(), tally.calls >= tally::ENOUGH)?;
         println!("{} calls, no difference", tally.calls);
         Ok(())
+    }
+
+    fn files(&self, ours: &dyn Face) -> Result<(), String> {
+        let (tally, difference) = files::compare(ours, &Second, self.count, self.seed);
+        self.report(difference)?;
+        judge(&tally, files::missing(&tally), tally.calls >= files::ENOUGH)?;
+        let [good, bad] = ["good", "bad"].map(|what| tally.count(what));
+        println!(
+            "{} files, {good} good and {bad} bad, no difference",
+            tally.calls
+        );
+        Ok(())
+    }
+
+    /// Writes a difference out, if there is one.
+    fn report(&self, difference: Option<Difference>) -> Result<(), String> {
+        let Some(difference) = difference else {
+            return Ok(());
+        };
+        let name = format!("{}-{}-{}.txt", self.what, self.seed, difference.run);
+        let written = report::write(&name, difference.text.as_bytes())
+            .map(|path| println!("the whole run: {}", path.display()));
+        Err(told(written, &difference.text))
     }
 
     /// The copy without a plant must pass, and each plant must be found.
@@ -130,7 +157,15 @@ impl Order {
         if let Some(difference) = difference {
             return Err(format!("the copy itself differs\n{}", difference.text));
         }
-        println!("{:<32} no difference in {} calls", "no plant", self.count);
+        let (_, difference) = files::compare(&Planted(None), &Second, self.count, self.seed);
+        if let Some(difference) = difference {
+            return Err(format!("the copy itself differs\n{}", difference.text));
+        }
+        let count = self.count;
+        println!(
+            "{:<32} no difference in {count} calls and {count} files",
+            "no plant"
+        );
         let mut unnoticed = Vec::new();
         let mut judge = |plant: String, found: Option<String>| match found {
             Some(how) => println!("{plant:<32} found {how}"),
@@ -147,6 +182,12 @@ impl Order {
                 format!("after {} calls: {what}", tally.calls)
             });
             judge(format!("{plant:?}"), found);
+        }
+        for plant in Plant::READING {
+            let planted = Planted(Some(plant));
+            let (tally, difference) = files::compare(&planted, &Second, self.count, self.seed);
+            let found = difference.map(|_| format!("after {} files", tally.calls));
+            judge(format!("{plant:?}, files"), found);
         }
         for planted in &MISREAD {
             let (_, difference) = consoles::compare(planted, 4 * consoles::ENOUGH, self.seed);

@@ -3,12 +3,14 @@
 
 use crate::call::{Call, Face};
 use crate::misjudged;
+use crate::misread;
 use crate::miswritten;
 use second::codec::{encode, ledger_of};
 use second::day::SHORTEST_FILE;
 use second::layout::*;
 use second::ledger::{read_vote, Ledger, Reading, State, Vote};
 use second::refusal::Refusal;
+use second::setting::Setting;
 use second::words::Answer;
 use std::collections::BTreeMap;
 
@@ -70,6 +72,31 @@ pub enum Plant {
     ShortBufferBeforeDamage,
     DamageClearsBuffer,
     LengthKeptInHeader,
+    // a file that is read, and the call that reads it
+    TrailingBytesTaken,
+    MissingBytesAreZero,
+    FileLengthInSixteenBits,
+    SettingCountUnread,
+    FullFileRefused,
+    NameInLowHalf,
+    NameTwiceSkipped,
+    SlotInEightBits,
+    ParentNumberIsName,
+    ParentTwiceTakenOnce,
+    LaterParentSkipped,
+    FifthParentSkipped,
+    PollsBeforeBookings,
+    PollTwiceSkipped,
+    PollOfGenesisSkipped,
+    UnbookedPollSkipped,
+    OutcomeTurnedRound,
+    OutcomeAboveOneIsFailure,
+    ConfidencesNotMade,
+    OpenedBeforeFileIsJudged,
+    OldRecordsKept,
+    DamagedWordsNotReadInto,
+    BadFileBeforeLength,
+    ReadingHasFileLength,
 }
 
 impl Plant {
@@ -134,11 +161,39 @@ impl Plant {
         Plant::LengthKeptInHeader,
     ];
 
+    pub const READING: [Plant; 24] = [
+        Plant::TrailingBytesTaken,
+        Plant::MissingBytesAreZero,
+        Plant::FileLengthInSixteenBits,
+        Plant::SettingCountUnread,
+        Plant::FullFileRefused,
+        Plant::NameInLowHalf,
+        Plant::NameTwiceSkipped,
+        Plant::SlotInEightBits,
+        Plant::ParentNumberIsName,
+        Plant::ParentTwiceTakenOnce,
+        Plant::LaterParentSkipped,
+        Plant::FifthParentSkipped,
+        Plant::PollsBeforeBookings,
+        Plant::PollTwiceSkipped,
+        Plant::PollOfGenesisSkipped,
+        Plant::UnbookedPollSkipped,
+        Plant::OutcomeTurnedRound,
+        Plant::OutcomeAboveOneIsFailure,
+        Plant::ConfidencesNotMade,
+        Plant::OpenedBeforeFileIsJudged,
+        Plant::OldRecordsKept,
+        Plant::DamagedWordsNotReadInto,
+        Plant::BadFileBeforeLength,
+        Plant::ReadingHasFileLength,
+    ];
+
     pub fn all() -> impl Iterator<Item = Plant> {
         (Plant::VOTE.into_iter())
             .chain(Plant::DAMAGE)
             .chain(Plant::FILE)
             .chain(Plant::WRITING)
+            .chain(Plant::READING)
     }
 }
 
@@ -162,6 +217,9 @@ impl Planted {
     fn answer(&self, ws: &mut [u16], out: &mut [u8], call: &Call) -> Result<i64, Refusal> {
         let is_long = ws.len() > WORDS && self.has(Plant::LongerWorkspaceTaken);
         if ws.len() != WORDS && !is_long {
+            if self.has(Plant::BadFileBeforeLength) && matches!(call, Call::ReadFirst(_)) {
+                misread::read(self.0, out)?;
+            }
             return Err(Refusal::Length);
         }
         let ws = &mut ws[..WORDS];
@@ -169,9 +227,12 @@ impl Planted {
             encode(&Ledger::open(*setting)?, ws);
             return Ok(0);
         }
+        if let Call::ReadFirst(_) = call {
+            return self.read(ws, out);
+        }
         let mut ledger = self.load(ws, out, call)?;
         match call {
-            Call::Open(_) => unreachable!("openings are done"),
+            Call::Open(_) | Call::ReadFirst(_) => unreachable!("openings and files are done"),
             Call::Book {
                 name,
                 slot,
@@ -208,6 +269,38 @@ impl Planted {
                 Ok(length as i64)
             }
         }
+    }
+
+    /// A day file, with the errors planted in what it does to the words.
+    fn read(&self, ws: &mut [u16], file: &[u8]) -> Result<i64, Refusal> {
+        if self.has(Plant::DamagedWordsNotReadInto) {
+            if let Some(refusal) = misjudged::refusal(None, ws) {
+                return Err(refusal);
+            }
+        }
+        if self.has(Plant::OpenedBeforeFileIsJudged) && file.len() >= SHORTEST_FILE {
+            let numbers: Vec<u16> = (file[2..10].chunks(2))
+                .map(|pair| u16::from_be_bytes([pair[0], pair[1]]))
+                .collect();
+            let [k, a, beta1, beta2] = numbers[..] else {
+                unreachable!("eight bytes are four numbers");
+            };
+            if let Ok(opened) = Ledger::open(Setting { k, a, beta1, beta2 }) {
+                encode(&opened, ws);
+            }
+        }
+        let ledger = misread::read(self.0, file)?;
+        let before = ws.to_vec();
+        encode(&ledger, ws);
+        if self.has(Plant::OldRecordsKept) {
+            let unused = record(ledger.bookings.len())..ENTRIES_START;
+            ws[unused.clone()].copy_from_slice(&before[unused]);
+        }
+        Ok(if self.has(Plant::ReadingHasFileLength) {
+            file.len() as i64
+        } else {
+            0
+        })
     }
 
     /// The test of soundness, with the errors planted in it and around it.

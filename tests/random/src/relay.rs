@@ -83,7 +83,7 @@ fn request(ws: &[u16], out: &[u8], call: &Call) -> Vec<u8> {
         }
         Call::Poll { name, votes } => (*name, [0; 4], votes.len(), votes.clone()),
         Call::Read(_, name) => (*name, [0; 4], 0, Vec::new()),
-        Call::WriteFirst(_) => (0, [0; 4], 0, Vec::new()),
+        Call::WriteFirst(_) | Call::ReadFirst(_) => (0, [0; 4], 0, Vec::new()),
     };
     let kind = kind.expect("every kind is listed") as u64;
     let [words, count, room] = [ws.len(), count, out.len()].map(|n| n as u64);

@@ -13,6 +13,7 @@ type Book = unsafe extern "C" fn(*mut u16, usize, u64, u16, *const u64, usize, *
 type Poll = unsafe extern "C" fn(*mut u16, usize, u64, *const u8, usize, *mut i64) -> u32;
 type Read = unsafe extern "C" fn(*const u16, usize, u64, *mut i64) -> u32;
 type Write = unsafe extern "C" fn(*const u16, usize, *mut u8, usize, *mut i64) -> u32;
+type Restore = unsafe extern "C" fn(*mut u16, usize, *const u8, usize, *mut i64) -> u32;
 
 extern "C" {
     fn filz_open(
@@ -53,6 +54,13 @@ extern "C" {
         bytes: usize,
         value: *mut i64,
     ) -> u32;
+    fn filz_read_first(
+        ws: *mut u16,
+        words: usize,
+        file: *const u8,
+        bytes: usize,
+        value: *mut i64,
+    ) -> u32;
 
     fn dlopen(path: *const c_char, flags: c_int) -> *mut c_void;
     fn dlsym(library: *mut c_void, name: *const c_char) -> *mut c_void;
@@ -76,6 +84,8 @@ pub struct Station {
     confidence: Read,
     size: Read,
     write_first: Write,
+    /// Builds from before there was this call have none.
+    read_first: Option<Restore>,
 }
 
 /// The build that is linked in.
@@ -89,6 +99,7 @@ pub const LINKED: Station = Station {
     confidence: filz_confidence,
     size: filz_size,
     write_first: filz_write_first,
+    read_first: Some(filz_read_first),
 };
 
 impl Station {
@@ -114,6 +125,7 @@ impl Station {
                 confidence: function(library, "filz_confidence")?,
                 size: function(library, "filz_size")?,
                 write_first: function(library, "filz_write_first")?,
+                read_first: function(library, "filz_read_first").ok(),
             })
         }
     }
@@ -183,8 +195,16 @@ impl Face for Station {
                 Call::WriteFirst(_) => {
                     (self.write_first)(ws.as_ptr(), words, out.as_mut_ptr(), out.len(), &mut value)
                 }
+                Call::ReadFirst(_) => {
+                    let read_first = self.read_first.expect("it has this kind of call");
+                    read_first(ws.as_mut_ptr(), words, out.as_ptr(), out.len(), &mut value)
+                }
             }
         };
         (number, value)
+    }
+
+    fn has(&self, kind: &str) -> bool {
+        kind != "read_first" || self.read_first.is_some()
     }
 }

@@ -3,11 +3,13 @@
 
 use crate::call::{Buffer, Call};
 use crate::damage::Kind;
+use crate::fault::Fault;
 use crate::file;
+use crate::made::Verdict;
 use crate::written::{FILES, ROOMS};
+use second::codec::ledger_of;
 use second::day::{LONGEST_FILE, SHORTEST_FILE};
 use second::layout::{BOOKINGS, SLOTS};
-use second::ledger::Ledger;
 use second::refusal::Refusal;
 use second::sound::{Broken, Damage, Place};
 use second::words::Answer;
@@ -29,13 +31,16 @@ impl Tally {
     }
 
     /// Counts an answered call; `before` is the ledger it was made on, or
-    /// what is broken in it.
-    pub fn add_call(&mut self, call: &Call, answer: Answer, before: &Result<Ledger, Damage>) {
+    /// what is broken in it, and `after` the words that it left.
+    pub fn add_call(&mut self, call: &Call, answer: Answer, before: &Verdict, after: &[u16]) {
         self.calls += 1;
         let (number, value) = answer;
         let kind = call.kind();
         if let Call::WriteFirst(buffer) = call {
             self.add_write(*buffer, number, before);
+        }
+        if let Call::ReadFirst(file) = call {
+            self.add_read(file, number, before, after);
         }
         if number != 0 {
             self.add(format!("{kind} refused"));
@@ -69,7 +74,7 @@ impl Tally {
 
     /// Counts how much room a file had, and what was in it. Of words that
     /// have no file it is counted whether any could have been written.
-    fn add_write(&mut self, buffer: Buffer, number: u32, before: &Result<Ledger, Damage>) {
+    fn add_write(&mut self, buffer: Buffer, number: u32, before: &Verdict) {
         let Ok(ledger) = before else {
             if buffer.room < SHORTEST_FILE {
                 self.add(hides_short_buffer(number));
@@ -86,6 +91,32 @@ impl Tally {
         for (case, is_met) in FILES {
             if number == 0 && is_met(ledger) {
                 self.add(case);
+            }
+        }
+    }
+
+    /// Counts what was in a file that was read, or why it was bad, and what
+    /// words it was read into.
+    fn add_read(&mut self, file: &[u8], number: u32, before: &Verdict, after: &[u16]) {
+        let fault = Fault::of(file);
+        self.add(match (number, fault, before) {
+            (1, Some(_), _) => HIDES_BAD_FILE,
+            (1, None, _) => KEEPS_GOOD_FILE,
+            (_, None, Ok(_)) => GOOD_ON_SOUND,
+            (_, None, Err(_)) => GOOD_ON_DAMAGED,
+            (_, Some(_), Ok(_)) => BAD_ON_SOUND,
+            (_, Some(_), Err(_)) => BAD_ON_DAMAGED,
+        });
+        if let Some(fault) = fault {
+            self.add(bad_for(fault));
+        }
+        if number != 0 {
+            return;
+        }
+        let ledger = ledger_of(after);
+        for (case, is_met) in FILES {
+            if is_met(&ledger) {
+                self.add(read(case));
             }
         }
     }
@@ -127,6 +158,8 @@ impl Tally {
         let cases = (CASES.into_iter().map(|(case, _)| case.to_string()))
             .chain(ROOMS.into_iter().map(|(case, _)| case.to_string()))
             .chain(FILES.into_iter().map(|(case, _)| case.to_string()))
+            .chain(FILES.into_iter().map(|(case, _)| read(case)))
+            .chain(Fault::ALL.into_iter().map(bad_for))
             .chain(damaged.clone().map(hides_short_buffer))
             .chain(damaged.map(keeps_long_buffer));
         let outcomes = [
@@ -143,9 +176,20 @@ impl Tally {
             UNREACHED,
             LAWS,
             TOLD,
+            READ_BACK,
+            HIDES_BAD_FILE,
+            KEEPS_GOOD_FILE,
+            GOOD_ON_SOUND,
+            GOOD_ON_DAMAGED,
+            BAD_ON_SOUND,
+            BAD_ON_DAMAGED,
         ];
         let all = refusals.chain(kinds).chain(sentences).chain(damages);
         self.unseen(all.chain(cases).chain(outcomes.map(String::from)))
+    }
+
+    pub fn count(&self, what: &str) -> usize {
+        self.seen.get(what).copied().unwrap_or(0)
     }
 
     /// Those of the list that were never counted.
@@ -160,6 +204,13 @@ pub const REACHED: &str = "ledgers reached";
 pub const UNREACHED: &str = "ledgers no history reaches";
 pub const LAWS: &str = "laws checked";
 pub const TOLD: &str = "places told by the damage";
+pub const READ_BACK: &str = "files read back";
+const HIDES_BAD_FILE: &str = "1 hides 17";
+const KEEPS_GOOD_FILE: &str = "1 with a good file";
+const GOOD_ON_SOUND: &str = "a good file into sound words";
+const GOOD_ON_DAMAGED: &str = "a good file into damaged words";
+const BAD_ON_SOUND: &str = "a bad file and sound words";
+const BAD_ON_DAMAGED: &str = "a bad file and damaged words";
 
 fn refused(number: u32) -> String {
     format!("refusal {number:>2}")
@@ -187,6 +238,15 @@ fn hides_short_buffer(number: u32) -> String {
 
 fn keeps_long_buffer(number: u32) -> String {
     format!("{number} with room for any file")
+}
+
+/// A case of a file that was written, for one that was read.
+fn read(case: &str) -> String {
+    format!("read {case}")
+}
+
+pub fn bad_for(fault: Fault) -> String {
+    format!("bad file: {fault:?}")
 }
 
 /// A name, and whether damage is a case of it.
@@ -295,6 +355,8 @@ impl Display for Tally {
 #[cfg(test)]
 mod tests {
     use super::*;
+    use crate::grow::words_of;
+    use second::ledger::Ledger;
     use second::setting::Setting;
     use Place::*;
 
@@ -414,7 +476,7 @@ mod tests {
         for what in reached {
             assert!(is_missing(&tally, what));
         }
-        tally.add_call(&call, (15, 255), &Err(damage));
+        tally.add_call(&call, (15, 255), &Err(damage), &[]);
         for what in reached {
             assert!(!is_missing(&tally, what));
         }
@@ -431,15 +493,11 @@ mod tests {
     /// The same of a file: how much room it had, what was in it, and which
     /// refusal came before.
     #[test]
-    fn what_was_not_written_is_missing() {
-        let ledger = || Ok(Ledger::open(Setting::PAPER).expect("it is good"));
+    fn what_was_not_written_or_read_is_missing() {
+        let opened = || Ledger::open(Setting::PAPER).expect("it is good");
+        let ledger = || Ok(opened());
         let damage = || Err(Damage([(Header, Broken::SettingBad)].into()));
-        type Step = (
-            usize,
-            Answer,
-            Result<Ledger, Damage>,
-            &'static [&'static str],
-        );
+        type Step = (usize, Answer, Verdict, &'static [&'static str]);
         let steps: [Step; 4] = [
             (
                 14,
@@ -462,13 +520,58 @@ mod tests {
                 assert!(is_missing(&tally, what), "{what}");
             }
             let call = Call::WriteFirst(Buffer { room, seed: 0 });
-            tally.add_call(&call, answer, &before);
+            tally.add_call(&call, answer, &before, &[]);
+            for what in reached {
+                assert!(!is_missing(&tally, what), "{what}");
+            }
+        }
+        type Reading = (&'static [u8], Answer, Verdict, &'static [&'static str]);
+        const FILE: [u8; 14] = [0, 4, 0, 3, 0, 2, 0, 1, 0, 2, 0, 0, 0, 0];
+        let readings: [Reading; 5] = [
+            (
+                &FILE,
+                (0, 0),
+                damage(),
+                &[
+                    "a good file into damaged words",
+                    "read file: the genesis alone",
+                    "read_first taken",
+                ],
+            ),
+            (
+                &FILE[..13],
+                (17, 0),
+                ledger(),
+                &[
+                    "refusal 17",
+                    "a bad file and sound words",
+                    "bad file: Short",
+                ],
+            ),
+            (&[1; 14], (1, 0), damage(), &["refusal  1", "1 hides 17"]),
+            (&FILE, (1, 0), damage(), &["1 with a good file"]),
+            (
+                &[0; 14],
+                (17, 0),
+                damage(),
+                &["a bad file and damaged words"],
+            ),
+        ];
+        for (file, answer, before, reached) in readings {
+            for what in reached {
+                assert!(is_missing(&tally, what), "{what}");
+            }
+            let call = Call::ReadFirst(file.to_vec());
+            tally.add_call(&call, answer, &before, &words_of(&opened()));
             for what in reached {
                 assert!(!is_missing(&tally, what), "{what}");
             }
         }
         for what in [
             "15 hides 16",
+            "a good file into sound words",
+            "bad file: Outcome",
+            "read file: the longest",
             "14 with room for any file",
             "room: none",
             "file: the longest",

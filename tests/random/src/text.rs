@@ -270,7 +270,9 @@ impl Writer {
                 }
             }
             Call::Read(_, name) => number(prng, *name),
-            Call::WriteFirst(_) => unreachable!("the console has no line for it"),
+            Call::WriteFirst(_) | Call::ReadFirst(_) => {
+                unreachable!("the console has no line for it")
+            }
         }
         self.line(line.as_bytes());
     }
@@ -299,7 +301,7 @@ fn follow(ledger: &mut Ledger, call: &Call) {
             parents,
         } => ledger.book(*name, *slot, parents),
         Call::Poll { name, votes } => ledger.poll(*name, votes),
-        Call::Read(..) | Call::WriteFirst(_) => Ok(()),
+        Call::Read(..) | Call::WriteFirst(_) | Call::ReadFirst(_) => Ok(()),
     };
 }
 

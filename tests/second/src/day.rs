@@ -1,4 +1,5 @@
-//! The day file: a ledger's day as bytes, for a neighbour.
+//! The day file: a ledger's day as bytes, for a neighbour. `parse` and
+//! `replay` lead back.
 //!
 //! First everything that the file carries is gathered into a `Day`, which
 //! knows nothing of bytes; then each item becomes bytes by itself, and a

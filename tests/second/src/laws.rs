@@ -1,11 +1,12 @@
 //! What must hold after every history, checked from outside.
 //!
-//! A `History` is told each taken call since the last taken opening, and
-//! nothing else. From it alone it knows what a `Picture` of the ledger (taken
+//! A `History` is told each taken call since the last taken opening, or
+//! reading of a day file, and nothing else. From it alone it knows what a `Picture` of the ledger (taken
 //! from words, or from a printed list) has to show. It keeps the ancestry of
 //! each booking as the union of its parents' ancestries.
 
 use crate::console::LIST_HEADER;
+use crate::day::Day;
 use crate::layout::*;
 use std::collections::{BTreeMap, HashMap, HashSet};
 
@@ -63,7 +64,7 @@ struct Past {
     ancestry: HashSet<usize>,
 }
 
-/// The taken calls since the last taken opening.
+/// The taken calls since the last taken opening or reading.
 #[derive(Default)]
 pub struct History {
     needed: usize,
@@ -84,11 +85,28 @@ impl History {
         self.add(0, 0, HashSet::new());
     }
 
+    /// A taken reading of this day's file: everything before it is forgotten,
+    /// and the file's polls are the history's first.
+    pub fn handed_over(&mut self, day: &Day) {
+        self.opened(day.setting.a);
+        for booked in &day.bookings {
+            self.add_on(booked.name, booked.slot, &booked.parents);
+        }
+        for polled in day.polls.values() {
+            self.add_poll(polled.booking, polled.is_success);
+        }
+    }
+
     /// A taken booking.
     pub fn booked(&mut self, name: u64, slot: u16, parents: &[u64]) {
+        let parents: Vec<usize> = parents.iter().map(|name| self.numbers[name]).collect();
+        self.add_on(name, slot, &parents);
+    }
+
+    fn add_on(&mut self, name: u64, slot: u16, parents: &[usize]) {
         let ancestry = parents
             .iter()
-            .flat_map(|parent| &self.bookings[self.numbers[parent]].ancestry)
+            .flat_map(|&parent| &self.bookings[parent].ancestry)
             .copied()
             .collect();
         self.add(name, slot, ancestry);
@@ -103,9 +121,14 @@ impl History {
 
     /// A taken poll, with its vote bytes.
     pub fn polled(&mut self, name: u64, votes: &[u8]) {
+        let yes = votes.iter().filter(|&&byte| byte == 1).count();
+        self.add_poll(self.numbers[&name], yes >= self.needed);
+    }
+
+    fn add_poll(&mut self, number: usize, is_success: bool) {
         self.polls += 1;
-        if votes.iter().filter(|&&byte| byte == 1).count() >= self.needed {
-            self.chits.push(self.numbers[&name]);
+        if is_success {
+            self.chits.push(number);
         }
     }
 

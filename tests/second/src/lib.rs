@@ -10,7 +10,9 @@
 //! - `ledger`: the rules of the vote, on maps
 //! - `sound`: which sentences of soundness words break, and at which row
 //! - `codec`: words to a ledger and back
-//! - `day`: the day file, as bytes
+//! - `day`: what a day file carries, and its bytes
+//! - `parse`: the bytes back to a day
+//! - `replay`: the ledger that a day leads to
 //! - `words`: the public calls on lent words
 //! - `command`: a line of text to a command
 //! - `console`: the text program
@@ -23,7 +25,9 @@ pub mod day;
 pub mod laws;
 pub mod layout;
 pub mod ledger;
+pub mod parse;
 pub mod refusal;
+pub mod replay;
 pub mod setting;
 pub mod sound;
 pub mod words;

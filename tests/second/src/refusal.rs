@@ -35,10 +35,12 @@ pub enum Refusal {
     BrokenEntry(usize),
     /// The buffer is shorter than the file.
     Room,
+    /// No writer leaves such a file.
+    File,
 }
 
 impl Refusal {
-    pub const HIGHEST: u32 = 16;
+    pub const HIGHEST: u32 = 17;
 
     pub fn number(self) -> u32 {
         match self {
@@ -58,6 +60,7 @@ impl Refusal {
             Refusal::BrokenRecord(_) => 14,
             Refusal::BrokenEntry(_) => 15,
             Refusal::Room => 16,
+            Refusal::File => 17,
         }
     }
 

@@ -2,13 +2,16 @@
 //!
 //! Every call reads the words into a ledger, works there, and writes the
 //! whole ledger back only when it was taken. So a refused call changes none.
-//! Likewise a day file is whole before the first of its bytes is written.
+//! Likewise a day file is whole before the first of its bytes is written, and
+//! the ledger that a file leads to before the first word.
 
 use crate::codec::{encode, ledger_of};
 use crate::day::Day;
 use crate::layout::WORDS;
 use crate::ledger::{Ledger, Reading};
+use crate::parse::parse;
 use crate::refusal::Refusal;
+use crate::replay::replay;
 use crate::setting::Setting;
 use crate::sound::judge;
 
@@ -95,4 +98,25 @@ pub fn write_first(ws: &[u16], out: &mut [u8]) -> Answer {
         front.copy_from_slice(&file);
         Ok(file.len() as i64)
     }))
+}
+
+/// The words become those of the ledger that the file leads to. As in an
+/// opening, the old words are not looked at.
+pub fn read_first(ws: &mut [u16], file: &[u8]) -> Answer {
+    answer((|| {
+        if ws.len() != WORDS {
+            return Err(Refusal::Length);
+        }
+        let ledger = handed_over(file).ok_or(Refusal::File)?;
+        encode(&ledger, ws);
+        Ok(0)
+    })())
+}
+
+/// The ledger of a file, if a writer could have left it: the day that it says
+/// can be lived through, and its file is this one, to the last byte.
+fn handed_over(file: &[u8]) -> Option<Ledger> {
+    let day = parse(file)?;
+    let ledger = replay(&day)?;
+    (Day::of(&ledger).file() == file).then_some(ledger)
 }

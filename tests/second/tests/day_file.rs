@@ -1,23 +1,13 @@
 //! The day file, byte for byte as worked out by hand, what a buffer of any
 //! length is left with, and its refusals on both sides of their borders.
 
+mod digits;
 mod ledgers;
+use digits::*;
 use ledgers::*;
 use second::day::{LONGEST_FILE, SHORTEST_FILE};
 use second::layout::*;
 use second::words::*;
-
-/// Bytes written as pairs of digits; the spaces between are for the reader.
-fn bytes(digits: &str) -> Vec<u8> {
-    let digits: Vec<u8> = digits
-        .chars()
-        .filter_map(|digit| Some(digit.to_digit(16)? as u8))
-        .collect();
-    digits
-        .chunks(2)
-        .map(|pair| pair[0] * 16 + pair[1])
-        .collect()
-}
 
 /// What may stand in a buffer before. No byte is the same in both, so that
 /// one that was not written shows.

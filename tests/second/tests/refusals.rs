@@ -1,7 +1,7 @@
 //! Every refusal on both sides of its border, the order of refusals, and
 //! that a refused call changes no word. All have value 0 but 14 and 15, of
 //! which `soundness.rs` and `damage.rs` say more; of the day file's refusals
-//! `day_file.rs` does.
+//! `day_file.rs` and `read_file.rs` do.
 
 mod ledgers;
 use ledgers::*;
@@ -227,6 +227,22 @@ fn refusal_16_a_short_buffer() {
     // It is the last refusal of the call.
     answers(&vec![0; WORDS], 2, |ws| write_first(ws, &mut []));
     answers(&ws[1..], 1, |ws| write_first(ws, &mut []));
+}
+
+/// The shortest file there is, and with a setting that is not good.
+#[test]
+fn refusal_17_a_bad_file() {
+    let file = [0, 4, 0, 3, 0, 2, 0, 1, 0, 2, 0, 0, 0, 0];
+    let mut other = file;
+    other[3] = 4;
+    // It does not matter whether the words are a ledger.
+    for ws in [run_polled(4), vec![0; WORDS]] {
+        answers(&ws, 0, |ws| read_first(ws, &file));
+        answers(&ws, 17, |ws| read_first(ws, &other));
+        answers(&ws, 17, |ws| read_first(ws, &file[..13]));
+        answers(&ws, 17, |ws| read_first(ws, &[]));
+        answers(&ws[1..], 1, |ws| read_first(ws, &[]));
+    }
 }
 
 /// A no takes nothing from the yes votes, and silence is no vote at all.

@@ -46,7 +46,13 @@ pub fn write_refused(refusal: Refusal, ws: &mut [u16], bytes: usize) {
     assert_eq!(after, before, "a refused call changed a byte");
 }
 
-/// Every call but open is refused so, whatever else is wrong with it.
+/// Reading this file is refused so.
+#[track_caller]
+pub fn read_refused(refusal: Refusal, ws: &mut [u16], file: &[u8]) {
+    refused(refusal, ws, |ws| read_first(ws, file));
+}
+
+/// Every call but open and the reading of a file is refused so, whatever else is wrong with it.
 #[track_caller]
 pub fn all_refused(refusal: Refusal, ws: &mut [u16]) {
     book_refused(refusal, ws, 0, 0, &[]);
@@ -54,5 +60,17 @@ pub fn all_refused(refusal: Refusal, ws: &mut [u16]) {
     readings_refused(refusal, ws, 9);
     for bytes in [0, FILE_LEAST - 1, FILE_MOST] {
         write_refused(refusal, ws, bytes);
+    }
+
+    // Of damage reading says nothing: the file alone decides.
+    let file = [0, 4, 0, 3, 0, 2, 0, 1, 0, 2, 0, 0, 0, 0];
+    if refusal == Refusal::WrongLength {
+        read_refused(refusal, ws, &file);
+        read_refused(refusal, ws, &[]);
+    } else {
+        read_refused(Refusal::BadFile, ws, &file[1..]);
+        let mut copy = ws.to_vec();
+        assert_eq!(read_first(&mut copy, &file), Ok(()));
+        assert_eq!(size(&copy, 0), Ok(1));
     }
 }

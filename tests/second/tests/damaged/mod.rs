@@ -11,7 +11,7 @@ use second::words::*;
 pub type Breach = (Place, Broken);
 
 /// The words break these sentences at these places, and nothing else. Every
-/// call but open is refused with the number and the value, also one that has
+/// call but open and the reading of a file is refused with the number and the value, also one that has
 /// other refusals to come, and changes nothing.
 pub fn refused(number: u32, value: i64, breaches: &[Breach], ws: &[u16]) {
     let damage = Damage(breaches.iter().copied().collect());
@@ -38,11 +38,16 @@ pub fn refused(number: u32, value: i64, breaches: &[Breach], ws: &[u16]) {
     }
     assert_eq!(after, ws);
 
-    // Opening looks at none of it.
+    // Opening looks at none of it, and reading a file neither.
+    let file = [0, 4, 0, 3, 0, 2, 0, 1, 0, 2, 0, 0, 0, 0];
     assert_eq!(open(&mut after, 3, 1, 1, 2), (3, 0));
+    assert_eq!(read_first(&mut after, &file[1..]), (17, 0));
     assert_eq!(after, ws);
+    let mut read = after.clone();
     assert_eq!(open(&mut after, 3, 2, 1, 2), (0, 0));
+    assert_eq!(read_first(&mut read, &file), (0, 0));
     assert_eq!(after, opened(3, 2, 1, 2));
+    assert_eq!(read, after);
 }
 
 /// The words break one sentence, at the place that the answer names.

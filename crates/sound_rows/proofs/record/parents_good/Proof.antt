@@ -2,7 +2,8 @@
 use mathlib.Core.Bool.{and-true}
 use borrow.Author.Needs.{needs}
 use Rattle.rules.specs.IsSound.{parentsGood}
-use Rattle.sound_rows.proofs.Few.{any-none, any-one, any-two, any-three}
+use Rattle.loops.proofs.Search.{any-none}
+use Rattle.sound_rows.proofs.Few.{any-one, any-two, any-three}
 use Rattle.sound_rows.proofs.record.parents_good.Statement.{statement}
 use Rattle.sound_rows.proofs.record.parents_good.Tie as tie
 

@@ -1,0 +1,356 @@
+//! Reading a day file: what it makes of any words, that writing leads back, and every way in which a file is bad, worked out by
+//! hand on both sides of each border.
+use filzhammer::*;
+
+mod listed;
+mod refused;
+use listed::*;
+use refused::*;
+
+/// A file, in its three sections.
+type Sections<'a> = [&'a [u8]; 3];
+
+/// The file of the example: see `day_file.rs`.
+const LISTED: Sections = [
+    &[0, 4, 0, 3, 0, 2, 0, 1, 0, 2],
+    &[
+        0, 4, // four bookings
+        0, 0, 0, 0, 0, 0, 0, 1, 0, 7, 0, 1, 0, 0, // 12: name 1, slot 7, on 0
+        0, 0, 0, 0, 0, 0, 0, 2, 0, 7, 0, 1, 0, 0, // 26: name 2, slot 7, on 0
+        0, 0, 0, 0, 0, 0, 0, 3, 0, 9, 0, 1, 0, 1, // 40: name 3, slot 9, on 1
+        0, 0, 0, 0, 0, 0, 0, 4, 0, 10, 0, 2, 0, 1, 0, 2, // 54: name 4, slot 10, on 1 and 2
+    ],
+    &[0, 4, 0, 2, 0, 1, 0, 3, 0, 0, 0, 4, 0, 1, 0, 1, 0, 1], // of 2, 3, 4 and 1
+];
+
+const NONE: &[u8] = &[0, 0];
+
+fn example() -> Vec<u8> {
+    LISTED.concat()
+}
+
+/// Words of the right length: never used, all alike, a ledger, and one whose header and last slot entry are damaged.
+fn any_words() -> [[u16; WORDS]; 4] {
+    let mut damaged = listed(4);
+    damaged[0] = 600;
+    damaged[WORDS - 1] = 9;
+    [[0; WORDS], [u16::MAX; WORDS], listed(4), damaged]
+}
+
+fn written(ws: &[u16]) -> Vec<u8> {
+    let mut out = vec![0; FILE_MOST];
+    let length = write_first(ws, &mut out).unwrap();
+    out.truncate(length);
+    out
+}
+
+/// The file makes these words of any, and is written again.
+#[track_caller]
+fn makes(file: &[u8], words: &[u16]) {
+    for mut ws in any_words() {
+        assert_eq!(read_first(&mut ws, file), Ok(()));
+        assert_eq!(ws[..], words[..]);
+    }
+    assert_eq!(written(words), file);
+}
+
+/// The file is taken, and written again.
+#[track_caller]
+fn good(sections: Sections) {
+    let file = sections.concat();
+    let mut ws = [9; WORDS];
+    assert_eq!(read_first(&mut ws, &file), Ok(()));
+    assert_eq!(written(&ws), file);
+}
+
+/// The file is refused, and leaves any words alone.
+#[track_caller]
+fn bad(sections: Sections) {
+    for mut ws in any_words() {
+        read_refused(Refusal::BadFile, &mut ws, &sections.concat());
+    }
+}
+
+// ---- what it makes
+
+#[test]
+fn the_file_of_the_example() {
+    makes(&example(), &listed(4));
+}
+
+#[test]
+fn what_was_written_is_read_back() {
+    for polls in 0..=4 {
+        let ws = listed(polls);
+        makes(&written(&ws), &ws);
+    }
+    let mut ws = [0; WORDS];
+    open(&mut ws, Setting::PAPER).unwrap();
+    makes(&written(&ws), &ws);
+}
+
+/// Names of all 64 bits, parents that are not their names, polls that are not in the order of the bookings.
+#[test]
+fn names_numbers_and_orders() {
+    let mut ws = [0; WORDS];
+    let setting = Setting {
+        k: 5,
+        a: 3,
+        beta1: 258,
+        beta2: 510,
+    };
+    open(&mut ws, setting).unwrap();
+    book(&mut ws, 3, 255, &[0]).unwrap();
+    book(&mut ws, u64::MAX, 1, &[3]).unwrap();
+    book(&mut ws, 0x0102_0304_0506_0708, 255, &[u64::MAX, 0, 3]).unwrap();
+    book(&mut ws, 1, 255, &[0x0102_0304_0506_0708]).unwrap();
+    poll(&mut ws, 1, &[YES; 5]).unwrap();
+    poll(&mut ws, 3, &[YES, YES, NO, NO, SILENT]).unwrap();
+    poll(&mut ws, u64::MAX, &[YES, YES, YES, NO, NO]).unwrap();
+    makes(&written(&ws), &ws);
+}
+
+#[test]
+fn the_day_goes_on_after_reading() {
+    let mut ws = [0; WORDS];
+    read_first(&mut ws, &written(&listed(2))).unwrap();
+    poll_refused(Refusal::NotWaiting, &mut ws, 2, &[YES; 3]);
+    poll(&mut ws, 4, &[YES; 3]).unwrap();
+    poll(&mut ws, 1, &[YES; 3]).unwrap();
+    assert_eq!(ws, listed(4));
+    book_refused(Refusal::NameTaken, &mut ws, 4, 8, &[0]);
+    book(&mut ws, 5, 8, &[4]).unwrap();
+    assert_eq!(size(&ws, 5), Ok(5));
+}
+
+/// 511 bookings after the genesis, with as many parents as they can have, all polled from the last to the first.
+#[test]
+fn the_longest_file() {
+    let mut ws = [0; WORDS];
+    open(&mut ws, SETTING).unwrap();
+    for name in 1..512u64 {
+        let parents: Vec<u64> = (0..name).rev().take(4).collect();
+        book(&mut ws, name, (name % 255 + 1) as u16, &parents).unwrap();
+    }
+    for name in (1..512).rev() {
+        let vote = if name % 3 == 0 { YES } else { NO };
+        poll(&mut ws, name, &[YES, SILENT, vote]).unwrap();
+    }
+    let file = written(&ws);
+    assert_eq!(file.len(), FILE_MOST);
+    makes(&file, &ws);
+
+    // One booking more, at the end of its section, with the count that is true then.
+    let polls = FILE_MOST - 2 - 4 * 511;
+    let more = [9, 0, 0, 0, 0, 0, 0, 0, 0, 1, 0, 1, 0, 0];
+    let mut longer = [&file[..polls], &more, &file[polls..]].concat();
+    longer[10..12].copy_from_slice(&[2, 0]);
+    bad([&longer, &[], &[]]);
+}
+
+/// What no poll led to is not in a file, and is made by the rules.
+#[test]
+fn confidences_and_slot_entries_are_made_again() {
+    let mut ws = listed(4);
+    ws[8 + 12 + 10] = 3; // the confidence of booking 1
+    ws[6152 + 4 * 7] = 1; // the preferred booking of slot 7
+    let file = written(&ws);
+    makes(&file, &listed(4));
+}
+
+// ---- 1 comes first
+
+#[test]
+fn words_of_another_length() {
+    for ws in [&mut listed(4)[..WORDS - 1], &mut [0; WORDS + 1], &mut []] {
+        read_refused(Refusal::WrongLength, ws, &example());
+        read_refused(Refusal::WrongLength, ws, &[]);
+        read_refused(Refusal::WrongLength, ws, &[0; 14]);
+        all_refused(Refusal::WrongLength, ws);
+    }
+}
+
+// ---- each way in which a file is bad
+
+#[test]
+fn a_file_that_ends_early() {
+    let file = example();
+    let mut ws = listed(1);
+    for length in 0..file.len() {
+        read_refused(Refusal::BadFile, &mut ws, &file[..length]);
+    }
+    bad([&[], &[], &[]]);
+}
+
+#[test]
+fn a_file_with_bytes_behind() {
+    let [setting, bookings, polls] = LISTED;
+    for more in [&[0][..], &[7], &[0; 2], &[0, 1, 0, 1], &example()] {
+        bad([setting, bookings, &[polls, more].concat()]);
+    }
+    let mut room = [0; FILE_MOST];
+    let length = write_first(&listed(4), &mut room).unwrap();
+    read_refused(Refusal::BadFile, &mut listed(4), &room);
+    read_first(&mut listed(4), &room[..length]).unwrap();
+}
+
+#[test]
+fn a_setting_of_another_count() {
+    let [_, bookings, polls] = LISTED;
+    bad([&[0, 5, 0, 3, 0, 2, 0, 1, 0, 2], bookings, polls]);
+    bad([&[0, 5, 0, 3, 0, 2, 0, 1, 0, 2, 0, 0], bookings, polls]);
+    bad([&[0, 3, 0, 3, 0, 2, 0, 1], bookings, polls]);
+    bad([&[4, 4, 0, 3, 0, 2, 0, 1, 0, 2], bookings, polls]);
+    bad([NONE, bookings, polls]);
+}
+
+#[test]
+fn a_setting_that_is_not_good() {
+    let [_, bookings, polls] = LISTED;
+    let setting = |k: u8, a: u8, beta1: u8, beta2: u16| {
+        let [high, low] = beta2.to_be_bytes();
+        [0, 4, 0, k, 0, a, 0, beta1, high, low]
+    };
+    for (k, a, beta1, beta2) in [(1, 1, 1, 1), (64, 33, 1, 510), (64, 64, 2, 2)] {
+        good([&setting(k, a, beta1, beta2), bookings, polls]);
+    }
+    for (k, a, beta1, beta2) in [
+        (0, 0, 1, 2),
+        (65, 40, 1, 2),
+        (4, 2, 1, 2),
+        (3, 4, 1, 2),
+        (3, 2, 0, 2),
+        (3, 2, 3, 2),
+        (3, 2, 1, 511),
+    ] {
+        bad([&setting(k, a, beta1, beta2), bookings, polls]);
+    }
+}
+
+/// A file with one booking: its name, slot, how many parents, and these.
+fn booking(name: u8, slot: u16, count: u8, parents: &[u8]) -> Vec<u8> {
+    let [high, low] = slot.to_be_bytes();
+    let mut bytes = vec![0, 1, 0, 0, 0, 0, 0, 0, 0, name, high, low, 0, count];
+    bytes.extend(parents.iter().flat_map(|&parent| [0, parent]));
+    bytes
+}
+
+#[test]
+fn a_name_that_is_taken() {
+    let [setting, bookings, polls] = LISTED;
+    good([setting, &booking(1, 7, 1, &[0]), NONE]);
+    bad([setting, &booking(0, 7, 1, &[0]), NONE]);
+    let mut twice = bookings.to_vec();
+    twice[2 + 14 + 7] = 1; // name 1 again
+    bad([setting, &twice, polls]);
+}
+
+#[test]
+fn a_slot_that_is_none() {
+    let [setting, ..] = LISTED;
+    for slot in [1, 255] {
+        good([setting, &booking(1, slot, 1, &[0]), NONE]);
+    }
+    for slot in [0, 256, 263, 65535] {
+        bad([setting, &booking(1, slot, 1, &[0]), NONE]);
+    }
+}
+
+#[test]
+fn parents_that_are_none() {
+    let [setting, bookings, polls] = LISTED;
+    let fifth = |count: u8, parents: &[u8]| {
+        let mut five = [bookings, &booking(5, 9, count, parents)[2..]].concat();
+        five[1] = 5;
+        five
+    };
+    for parents in [&[4][..], &[0, 4], &[4, 3, 2], &[0, 1, 2, 3]] {
+        good([setting, &fifth(parents.len() as u8, parents), polls]);
+    }
+    // none, five, itself, one that comes later, one twice
+    for parents in [
+        &[][..],
+        &[0, 1, 2, 3, 4],
+        &[5],
+        &[6],
+        &[255],
+        &[2, 2],
+        &[0, 4, 3, 0],
+    ] {
+        bad([setting, &fifth(parents.len() as u8, parents), polls]);
+    }
+    // a count that is not theirs
+    bad([setting, &fifth(1, &[0, 4]), polls]);
+    bad([setting, &fifth(3, &[0, 4]), polls]);
+    bad([setting, &booking(1, 7, 1, &[1]), NONE]); // the first can only rest on the genesis
+}
+
+#[test]
+fn polls_that_cannot_be() {
+    let [setting, bookings, _] = LISTED;
+    for polls in [&[0, 1, 0, 4, 0, 1][..], &[0, 2, 0, 4, 0, 0, 0, 1, 0, 1]] {
+        good([setting, bookings, polls]);
+    }
+    for polls in [
+        &[0, 1, 0, 0, 0, 1][..],         // of the genesis
+        &[0, 1, 0, 5, 0, 1],             // of a number that is not there
+        &[0, 1, 1, 1, 0, 1],             // the same, by its high byte
+        &[0, 1, 0, 4, 0, 2],             // an outcome of 2
+        &[0, 1, 0, 4, 1, 0],             // one of 256
+        &[0, 2, 0, 4, 0, 1, 0, 4, 0, 1], // one booking twice
+        &[0, 2, 0, 4, 0, 1, 0, 4, 0, 0], // with another outcome
+        &[0, 2, 0, 4, 0, 1],             // a poll less than the count says
+        &[0, 0, 0, 4, 0, 1],             // and one more
+    ] {
+        bad([setting, bookings, polls]);
+    }
+}
+
+// ---- one byte of the example, every place and every value
+
+/// Which values of the byte leave the example's file good, by the rules.
+fn good_values(at: usize) -> Vec<u8> {
+    let all_but = |bad: &[u8]| (0..=255).filter(|value| !bad.contains(value)).collect();
+    match at {
+        3 | 5 => vec![2, 3],          // a at most k, and k below 2 × a
+        7 => vec![1, 2],              // beta1 from 1 to beta2
+        8 => vec![0, 1],              // beta2 up to 510: 258
+        9 => all_but(&[0]),           // beta2 from beta1 on
+        19 => all_but(&[0, 2, 3, 4]), // the last bytes of the names: 0 and the others' are taken
+        33 => all_but(&[0, 1, 3, 4]),
+        47 => all_but(&[0, 1, 2, 4]),
+        61 => all_but(&[0, 1, 2, 3]),
+        12..=60 if (at - 12) % 14 < 7 => all_but(&[]), // their other bytes
+        21 | 35 | 49 | 63 => all_but(&[0]),            // slots
+        39 => vec![0, 1],                              // the parent of 2
+        51 => vec![1, 2], // 3 on 1 and 0: the bytes after it are then a booking of slot 2 on 2
+        53 => vec![0, 1, 2], // the parent of 3
+        67 => vec![0, 1, 3], // the parents of 4
+        69 => vec![0, 2, 3],
+        75 | 79 | 83 | 87 => vec![0, 1], // outcomes
+        _ => vec![example()[at]], // counts, high bytes, and whom the polls are of: all four are polled
+    }
+}
+
+#[test]
+fn every_value_of_every_byte() {
+    let file = example();
+    let before = listed(1);
+    for at in 0..file.len() {
+        let values = good_values(at);
+        for value in 0..=255 {
+            let mut other = file.clone();
+            other[at] = value;
+            let mut ws = before;
+            let answer = read_first(&mut ws, &other);
+            let place = format!("byte {at} as {value}");
+            if values.contains(&value) {
+                assert_eq!(answer, Ok(()), "{place}");
+                assert_eq!(written(&ws), other, "{place}");
+            } else {
+                assert_eq!(answer, Err(Refusal::BadFile), "{place}");
+                assert_eq!(ws, before, "{place}");
+            }
+        }
+    }
+}

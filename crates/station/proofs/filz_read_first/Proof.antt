@@ -1,0 +1,20 @@
+-- The ledger's own answer is told, and its words are left.
+use borrow.Author.Needs.{needs}
+use Rattle.station.proofs.Telling.{left-of}
+use Rattle.station.proofs.filz_read_first.Statement.{statement}
+use Rattle.station.proofs.filz_read_first.Tie as tie
+
+read-first-requires : tie.Need-read-first-requires
+read-first-requires c κs = search needs
+
+tell-requires : tie.Need-tell-requires
+tell-requires c κs = search needs
+
+same-length : tie.Need-same-length
+same-length c = search needs
+
+left : tie.Need-returns
+left c = left-of (c .before .before .before .before .read-first .ensures) (c .tell .ensures)
+
+pub filz-read-first-spec : {M : Type 1} → statement M
+filz-read-first-spec = tie.close (tie.spec read-first-requires tell-requires same-length left)

@@ -1,0 +1,229 @@
+//! Why a file is bad, told by what has to hold of its numbers. Nothing is
+//! booked and nothing is polled for it, so that it is a third opinion beside
+//! those of both programs.
+
+use crate::file::Reader;
+use second::layout::{BOOKINGS, PARENTS, SLOTS};
+use std::collections::HashSet;
+
+/// What is wrong first, from the file's first byte on.
+#[derive(Clone, Copy, Debug, PartialEq, Eq)]
+pub enum Fault {
+    /// It ends before it should.
+    Short,
+    /// The first count isn't 4.
+    SettingCount,
+    Setting,
+    /// There are more bookings than a ledger has room for.
+    TooMany,
+    /// A booking has the name of the genesis.
+    NameZero,
+    /// A booking has the name of an earlier one.
+    NameTwice,
+    Slot,
+    ParentCount,
+    /// A parent isn't a lower number.
+    ParentNotLower,
+    ParentTwice,
+    /// A poll is of the genesis.
+    PollOfGenesis,
+    /// A poll is of a number that no booking has.
+    PollUnbooked,
+    PolledTwice,
+    Outcome,
+    /// There are bytes behind it.
+    Surplus,
+}
+
+impl Fault {
+    pub const ALL: [Fault; 15] = [
+        Fault::Short,
+        Fault::SettingCount,
+        Fault::Setting,
+        Fault::TooMany,
+        Fault::NameZero,
+        Fault::NameTwice,
+        Fault::Slot,
+        Fault::ParentCount,
+        Fault::ParentNotLower,
+        Fault::ParentTwice,
+        Fault::PollOfGenesis,
+        Fault::PollUnbooked,
+        Fault::PolledTwice,
+        Fault::Outcome,
+        Fault::Surplus,
+    ];
+
+    /// The first fault of a file, if it has one.
+    pub fn of(file: &[u8]) -> Option<Fault> {
+        judge(&mut Reader { file, at: 0 }).err()
+    }
+}
+
+fn judge(file: &mut Reader) -> Result<(), Fault> {
+    if number(file)? != 4 {
+        return Err(Fault::SettingCount);
+    }
+    let [k, a, beta1, beta2] = [number(file)?, number(file)?, number(file)?, number(file)?];
+    let is_good = k > 0 && k <= 64 && a <= k && a + a > k;
+    if !is_good || beta1 == 0 || beta1 > beta2 || beta2 > 510 {
+        return Err(Fault::Setting);
+    }
+    let booked = number(file)?;
+    let mut names = HashSet::new();
+    for own in 1..=booked {
+        if own >= BOOKINGS {
+            return Err(Fault::TooMany);
+        }
+        judge_booking(file, own, &mut names)?;
+    }
+    let mut polled = HashSet::new();
+    for _ in 0..number(file)? {
+        let booking = number(file)?;
+        if booking == 0 {
+            return Err(Fault::PollOfGenesis);
+        }
+        if booking > booked {
+            return Err(Fault::PollUnbooked);
+        }
+        if !polled.insert(booking) {
+            return Err(Fault::PolledTwice);
+        }
+        if number(file)? > 1 {
+            return Err(Fault::Outcome);
+        }
+    }
+    if file.at < file.file.len() {
+        return Err(Fault::Surplus);
+    }
+    Ok(())
+}
+
+fn judge_booking(file: &mut Reader, own: usize, names: &mut HashSet<u64>) -> Result<(), Fault> {
+    let name = file.number(8).map_err(|_| Fault::Short)?;
+    if name == 0 {
+        return Err(Fault::NameZero);
+    }
+    if !names.insert(name) {
+        return Err(Fault::NameTwice);
+    }
+    let slot = number(file)?;
+    if slot == 0 || slot >= SLOTS {
+        return Err(Fault::Slot);
+    }
+    let count = number(file)?;
+    if count == 0 || count > PARENTS {
+        return Err(Fault::ParentCount);
+    }
+    let mut parents = Vec::with_capacity(count);
+    for _ in 0..count {
+        let parent = number(file)?;
+        if parent >= own {
+            return Err(Fault::ParentNotLower);
+        }
+        if parents.contains(&parent) {
+            return Err(Fault::ParentTwice);
+        }
+        parents.push(parent);
+    }
+    Ok(())
+}
+
+fn number(file: &mut Reader) -> Result<usize, Fault> {
+    match file.number(2) {
+        Ok(number) => Ok(number as usize),
+        Err(_) => Err(Fault::Short),
+    }
+}
+
+#[cfg(test)]
+mod tests {
+    use super::*;
+    use crate::draft::{Draft, Poll, Row};
+
+    fn row(name: u64, slot: u16, parents: &[u16]) -> Row {
+        Row {
+            name,
+            slot,
+            parents: parents.to_vec(),
+        }
+    }
+
+    fn poll(booking: u16, outcome: u16) -> Poll {
+        Poll { booking, outcome }
+    }
+
+    fn draft() -> Draft {
+        Draft {
+            setting: vec![3, 2, 1, 2],
+            rows: vec![
+                row(9, 1, &[0]),
+                row(8, 255, &[1, 0]),
+                row(7, 1, &[2, 0, 1]),
+                row(6, 2, &[0, 1, 2, 3]),
+            ],
+            polls: vec![poll(3, 0), poll(1, 1), poll(4, 1)],
+        }
+    }
+
+    /// Each fault by a change of a good file that makes no other.
+    #[test]
+    fn each_fault_is_what_its_name_says() {
+        type Case = (Fault, fn(&mut Draft));
+        let cases: [Case; 27] = [
+            (Fault::SettingCount, |d| d.setting.push(1)),
+            (Fault::SettingCount, |d| d.setting.truncate(3)),
+            (Fault::Setting, |d| d.setting[0] = 0),
+            (Fault::Setting, |d| d.setting[0] = 4),
+            (Fault::Setting, |d| d.setting[1] = 4),
+            (Fault::Setting, |d| d.setting[1] = 32769),
+            (Fault::Setting, |d| d.setting[2] = 0),
+            (Fault::Setting, |d| d.setting[2] = 3),
+            (Fault::Setting, |d| d.setting[3] = 511),
+            (Fault::TooMany, |d| {
+                d.rows.extend((5..=512).map(|b| row(100 + b, 1, &[0])));
+            }),
+            (Fault::NameZero, |d| d.rows[0].name = 0),
+            (Fault::NameTwice, |d| d.rows[3].name = 9),
+            (Fault::Slot, |d| d.rows[2].slot = 0),
+            (Fault::Slot, |d| d.rows[2].slot = 256),
+            (Fault::ParentCount, |d| d.rows[3].parents.clear()),
+            (Fault::ParentCount, |d| {
+                d.rows.push(row(5, 1, &[0, 1, 2, 3, 4]));
+            }),
+            (Fault::ParentNotLower, |d| d.rows[0].parents[0] = 1),
+            (Fault::ParentNotLower, |d| d.rows[3].parents[3] = 65535),
+            (Fault::ParentTwice, |d| d.rows[3].parents[3] = 0),
+            (Fault::PollOfGenesis, |d| d.polls[0].booking = 0),
+            (Fault::PollUnbooked, |d| d.polls[0].booking = 5),
+            (Fault::PolledTwice, |d| d.polls[2].booking = 3),
+            (Fault::PolledTwice, |d| d.polls[2] = poll(1, 0)),
+            (Fault::Outcome, |d| d.polls[1].outcome = 2),
+            (Fault::Outcome, |d| d.polls[1].outcome = 256),
+            (Fault::Outcome, |d| d.polls[2].outcome = 65535),
+            (Fault::SettingCount, |d| d.setting.clear()),
+        ];
+        assert_eq!(Fault::of(&draft().bytes()), None);
+        for (fault, change) in cases {
+            let mut draft = draft();
+            change(&mut draft);
+            assert_eq!(Fault::of(&draft.bytes()), Some(fault), "{draft:?}");
+        }
+        let file = draft().bytes();
+        for length in 0..file.len() {
+            assert_eq!(Fault::of(&file[..length]), Some(Fault::Short));
+        }
+        for more in 1..20 {
+            let longer = [&file[..], &vec![0; more]].concat();
+            assert_eq!(Fault::of(&longer), Some(Fault::Surplus));
+        }
+    }
+
+    /// 511 bookings are not too many.
+    #[test]
+    fn a_full_ledger_has_a_file() {
+        let mut draft = draft();
+        draft.rows.extend((5..=511).map(|b| row(100 + b, 1, &[0])));
+        assert_eq!(Fault::of(&draft.bytes()), None);
+    }
+}

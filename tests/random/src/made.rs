@@ -1,0 +1,151 @@
+//! One call, made by both faces on the same words: what they say and leave
+//! must be the same, and what the rules ask of any call must hold.
+
+use crate::call::{Call, Face};
+use crate::fault::Fault;
+use crate::file;
+use crate::guard::Guarded;
+use crate::report::{bytes_text, words_text};
+use second::codec::decode;
+use second::layout::WORDS;
+use second::ledger::Ledger;
+use second::sound::Damage;
+use second::words::Answer;
+
+/// The verdict on words: the ledger that they hold, or what is broken.
+pub type Verdict = Result<Ledger, Damage>;
+
+/// What a call was answered with, and what it left.
+pub struct Made {
+    pub our_answer: Answer,
+    pub their_answer: Answer,
+    our_words: Guarded<u16>,
+    our_bytes: Guarded<u8>,
+    /// What theirs left, which is what ours left where nothing differs.
+    pub words: Vec<u16>,
+    pub bytes: Vec<u8>,
+}
+
+impl Made {
+    pub fn by(ours: &dyn Face, theirs: &dyn Face, before: &[u16], call: &Call) -> Made {
+        let (mut words, mut bytes) = (before.to_vec(), call.lent_bytes());
+        let (mut our_words, mut our_bytes) = (Guarded::new(before), Guarded::new(&bytes[..]));
+        let our_answer = ours.call(our_words.lend(), our_bytes.lend(), call);
+        let their_answer = theirs.call(&mut words, &mut bytes, call);
+        Made {
+            our_answer,
+            their_answer,
+            our_words,
+            our_bytes,
+            words,
+            bytes,
+        }
+    }
+
+    /// What differs, or is not as it has to be, with all that was left.
+    pub fn check(&self, before: &[u16], call: &Call, verdict: &Verdict) -> Result<(), String> {
+        let lent = call.lent_bytes();
+        self.compare(before, &lent, call, verdict).map_err(|what| {
+            let text = |words, bytes| format!("{}{}", words_text(words), bytes_text(bytes));
+            let before = text(before, &lent);
+            let ours = text(self.our_words.lent(), self.our_bytes.lent());
+            let theirs = text(&self.words, &self.bytes);
+            let (answer, other) = (self.our_answer, self.their_answer);
+            format!(
+                "{what}\n{} answered {answer:?}, theirs {other:?}\n\
+                 before: {before}\nours: {ours}\ntheirs: {theirs}",
+                call.kind()
+            )
+        })
+    }
+
+    fn compare(
+        &self,
+        before: &[u16],
+        lent: &[u8],
+        call: &Call,
+        verdict: &Verdict,
+    ) -> Result<(), String> {
+        let told = |is_so: bool, what: &str| if is_so { Ok(()) } else { Err(what.to_string()) };
+        told(self.our_answer == self.their_answer, "another answer")?;
+        told(self.our_words.lent() == self.words, "other words")?;
+        let mut pairs = self.our_bytes.lent().iter().zip(&self.bytes);
+        if let Some(at) = pairs.position(|(ours, theirs)| ours != theirs) {
+            return Err(format!("other bytes, from {at} on"));
+        }
+        told(
+            self.our_words.is_intact(),
+            "a word outside the lent ones was written",
+        )?;
+        told(
+            self.our_bytes.is_intact(),
+            "a byte outside the lent ones was written",
+        )?;
+        let may_change = self.our_answer.0 == 0 && call.is_change();
+        told(
+            may_change || self.words == before,
+            "a refused call or a reading changed a word",
+        )?;
+        told(
+            !may_change || decode(&self.words).is_ok(),
+            "a taken call left unsound words",
+        )?;
+        match call {
+            Call::WriteFirst(_) => self.check_written(lent, before, verdict),
+            Call::ReadFirst(file) => self.check_read(file, before),
+            _ => Ok(()),
+        }
+    }
+
+    /// Did writing the file of these words do what it has to, whoever else
+    /// did the same? The buffer had the bytes `lent`.
+    fn check_written(&self, lent: &[u8], ws: &[u16], verdict: &Verdict) -> Result<(), String> {
+        let mut written = 0;
+        if let Ok(ledger) = verdict {
+            let (length, room) = (file::length(ledger), lent.len());
+            let is_short = room < length;
+            let meant = if is_short {
+                (16, 0)
+            } else {
+                (0, length as i64)
+            };
+            written = if is_short { 0 } else { length };
+            let answer = self.our_answer;
+            if answer != meant {
+                return Err(format!(
+                    "{length} bytes into {room}, answered {answer:?}, not {meant:?}"
+                ));
+            }
+        }
+        if self.bytes[written..] != lent[written..] {
+            return Err("a byte was written that is none of the file".to_string());
+        }
+        if written > 0 {
+            file::check(&self.bytes[..written], ws)?;
+        }
+        Ok(())
+    }
+
+    /// The same of reading a file into these words.
+    fn check_read(&self, file: &[u8], ws: &[u16]) -> Result<(), String> {
+        let fault = Fault::of(file);
+        let meant = match fault {
+            _ if ws.len() != WORDS => (1, 0),
+            Some(_) => (17, 0),
+            None => (0, 0),
+        };
+        let answer = self.our_answer;
+        if answer != meant {
+            return Err(format!(
+                "a file with the fault {fault:?}, answered {answer:?}, not {meant:?}"
+            ));
+        }
+        if self.bytes != file {
+            return Err("a byte of the file was changed".to_string());
+        }
+        if meant.0 == 0 {
+            file::check(file, &self.words)?;
+        }
+        Ok(())
+    }
+}

@@ -1,0 +1,171 @@
+//! The reading of a day file with errors planted, for `planted`. Each takes
+//! most files for what they are.
+
+use crate::planted::Plant;
+use second::ledger::{Ledger, GENESIS};
+use second::refusal::Refusal;
+use second::setting::Setting;
+
+/// The ledger of a file.
+pub fn read(plant: Option<Plant>, file: &[u8]) -> Result<Ledger, Refusal> {
+    let mut bytes = file;
+    if plant == Some(Plant::FileLengthInSixteenBits) {
+        bytes = &file[..file.len() % 65_536];
+    }
+    let mut reader = Reader {
+        plant,
+        bytes,
+        at: 0,
+    };
+    let ledger = reader.ledger()?;
+    if reader.at < bytes.len() && !reader.has(Plant::TrailingBytesTaken) {
+        return Err(Refusal::File);
+    }
+    Ok(ledger)
+}
+
+struct Reader<'a> {
+    plant: Option<Plant>,
+    bytes: &'a [u8],
+    at: usize,
+}
+
+impl Reader<'_> {
+    fn has(&self, plant: Plant) -> bool {
+        self.plant == Some(plant)
+    }
+
+    fn ledger(&mut self) -> Result<Ledger, Refusal> {
+        let count = self.number()?;
+        if count != 4 && !self.has(Plant::SettingCountUnread) {
+            return Err(Refusal::File);
+        }
+        let [k, a, beta1, beta2] = [(); 4].map(|()| self.number());
+        let setting = Setting {
+            k: k?,
+            a: a?,
+            beta1: beta1?,
+            beta2: beta2?,
+        };
+        let mut ledger = Ledger::open(setting).map_err(|_| Refusal::File)?;
+        let booked = self.number()?;
+        if booked == 511 && self.has(Plant::FullFileRefused) {
+            return Err(Refusal::File);
+        }
+        for _ in 0..booked {
+            self.booking(&mut ledger)?;
+        }
+        self.polls(&mut ledger)?;
+        Ok(ledger)
+    }
+
+    fn booking(&mut self, ledger: &mut Ledger) -> Result<(), Refusal> {
+        let mut name = self.name()?;
+        let slot = self.number()?;
+        let mut parents = Vec::new();
+        for _ in 0..self.number()? {
+            parents.push(self.number()?);
+        }
+        if self.has(Plant::ParentTwiceTakenOnce) {
+            let mut seen = Vec::new();
+            parents.retain(|parent| {
+                let is_new = !seen.contains(parent);
+                seen.push(*parent);
+                is_new
+            });
+        }
+        if self.has(Plant::LaterParentSkipped) {
+            parents.retain(|&parent| usize::from(parent) < ledger.bookings.len());
+        }
+        if self.has(Plant::FifthParentSkipped) {
+            parents.truncate(4);
+        }
+        if self.has(Plant::SlotInEightBits) && slot > 255 {
+            return self.book(ledger, name, slot % 256, &parents);
+        }
+        if ledger.numbers.contains_key(&name) && self.has(Plant::NameTwiceSkipped) {
+            return Ok(());
+        }
+        if self.has(Plant::NameInLowHalf) {
+            name %= 1 << 32;
+        }
+        self.book(ledger, name, slot, &parents)
+    }
+
+    fn book(
+        &self,
+        ledger: &mut Ledger,
+        name: u64,
+        slot: u16,
+        parents: &[u16],
+    ) -> Result<(), Refusal> {
+        let mut names = Vec::new();
+        for &parent in parents {
+            if self.has(Plant::ParentNumberIsName) {
+                names.push(parent.into());
+                continue;
+            }
+            let booking = ledger.bookings.get(usize::from(parent));
+            names.push(booking.ok_or(Refusal::File)?.name);
+        }
+        (ledger.book(name, slot, &names)).map_err(|_| Refusal::File)
+    }
+
+    fn polls(&mut self, ledger: &mut Ledger) -> Result<(), Refusal> {
+        let mut polls = Vec::new();
+        for _ in 0..self.number()? {
+            let booking = usize::from(self.number()?);
+            let outcome = self.number()?;
+            if outcome > 1 && !self.has(Plant::OutcomeAboveOneIsFailure) {
+                return Err(Refusal::File);
+            }
+            let is_success = (outcome == 1) != self.has(Plant::OutcomeTurnedRound);
+            polls.push((booking, is_success));
+        }
+        // As if each poll had come before the next booking.
+        if self.has(Plant::PollsBeforeBookings) {
+            polls.sort();
+        }
+        let mut polled = Vec::new();
+        for (booking, is_success) in polls {
+            let is_skipped = self.has(Plant::PollOfGenesisSkipped) && booking == GENESIS
+                || self.has(Plant::PollTwiceSkipped) && polled.contains(&booking)
+                || self.has(Plant::UnbookedPollSkipped) && booking >= ledger.bookings.len();
+            if is_skipped {
+                continue;
+            }
+            polled.push(booking);
+            let name = ledger.bookings.get(booking).ok_or(Refusal::File)?.name;
+            let votes = vec![u8::from(is_success); ledger.setting.k.into()];
+            (ledger.poll(name, &votes)).map_err(|_| Refusal::File)?;
+        }
+        if self.has(Plant::ConfidencesNotMade) {
+            for booking in &mut ledger.bookings {
+                booking.confidence = 0;
+            }
+        }
+        Ok(())
+    }
+
+    fn number(&mut self) -> Result<u16, Refusal> {
+        Ok(u16::from_be_bytes([self.byte()?, self.byte()?]))
+    }
+
+    fn name(&mut self) -> Result<u64, Refusal> {
+        let mut name = 0;
+        for _ in 0..8 {
+            name = name << 8 | u64::from(self.byte()?);
+        }
+        Ok(name)
+    }
+
+    fn byte(&mut self) -> Result<u8, Refusal> {
+        let byte = self.bytes.get(self.at).copied();
+        self.at += 1;
+        match byte {
+            None if self.has(Plant::MissingBytesAreZero) => Ok(0),
+            None => Err(Refusal::File),
+            Some(byte) => Ok(byte),
+        }
+    }
+}
