@@ -1,4 +1,4 @@
--- A place that holds no booking's number is unused, and so is every later one: nothing more is marked for them.
+-- A place that holds no booking's number is unused, and so is every later one: nobody more becomes a member for them.
 use mathlib.Core.Path.{_≡_}
 use mathlib.Core.List.{List}
 use mathlib.Core.Logic.{⊎-elim}
@@ -12,7 +12,7 @@ use Rattle.loops.specs.Turns.{upTo}
 use Rattle.loops.proofs.Turns.{upTo-idle}
 use Rattle.rules.specs.Layout.{mostBookings, mostParents, none, bookings, parentOf}
 use Rattle.rules.specs.Sound.{Sound}
-use Rattle.rules.specs.Ancestry.{mark, markParents}
+use Rattle.rules.specs.Ancestry.{withMember, withParents}
 
 module _ (w : List ℕ) (sound : Sound w) where
   unused-here : (j a : ℕ) → j < bookings w → a < mostParents → mostBookings ≤ parentOf w j a → parentOf w j a ≡ none
@@ -28,12 +28,12 @@ module _ (w : List ℕ) (sound : Sound w) where
   unused-later (suc j) a b below l u e = sound .booking (suc j) (omega arith) below .unusedAfter a b l u e
 
   pub parents-done : (j a : ℕ) (m : List ℕ) → j < bookings w → a < mostParents → mostBookings ≤ parentOf w j a
-      → length (upTo (λ b. mark (parentOf w j b)) a m) ≡ mostBookings → markParents w j m ≡ upTo (λ b. mark (parentOf w j b)) a m
+      → length (upTo (λ b. withMember (parentOf w j b)) a m) ≡ mostBookings → withParents w j m ≡ upTo (λ b. withMember (parentOf w j b)) a m
   parents-done j a m below l past long =
       let here = unused-here j a below l past in
-      upTo-idle (λ b. mark (parentOf w j b)) mostParents a (omega arith) m
+      upTo-idle (λ b. withMember (parentOf w j b)) mostParents a (omega arith) m
       (λ b u v.
-      set-out (upTo (λ c. mark (parentOf w j c)) a m) (parentOf w j b) 1
+      set-out (upTo (λ c. withMember (parentOf w j c)) a m) (parentOf w j b) 1
       (⊎-elim
       (λ (q : a ≡ b). rw (← q) (omega arith))
       (λ (q : a < b). omega (arith, unused-later j a b below q v here))

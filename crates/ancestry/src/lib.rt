@@ -1,17 +1,17 @@
-// Who is reached from a booking, each member once: eight words, in which bit j is the mark of booking j.
+// Who is reached from a booking, each member once: eight words, in which bit j is that of booking j.
 use rules::layout;
 ghost use mathlib.Core.Path.{_≡_};
 ghost use Prim.Native.Nat.{_+_, _*_, _/_, _<_, _≤_};
 ghost use lib.ListN.{length};
 ghost use Rattle.rules.specs.Layout.{bookings};
 ghost use Rattle.rules.specs.Sound.{Ledger};
-ghost use Rattle.rules.specs.Ancestry.{markParents, spread, sweep, ancestry};
-ghost use Rattle.bits.specs.Marks.{markWords, marksIn, marksWith, noMarks};
+ghost use Rattle.rules.specs.Ancestry.{withParents, spread, sweep, ancestry};
+ghost use Rattle.bits.specs.Members.{bitWords, membersIn, membersWith, noBits};
 
-// The marks with the parents of j too. The word with j's own mark stands apart, and comes back: parents are often near.
-fn mark_parents(w: &[u16], m: &mut [u64], own: u64, j: usize) -> u64
-    requires { ⌜ Ledger (now w) × (j < bookings (now w)) × (length (now m) ≡ markWords) ⌝ }
-    ensures { λ r. ⌜ marksWith (now (m .exit)) (j / 64) r ≡ markParents (now (w .entry)) j (marksWith (now (m .entry)) (j / 64) own) ⌝ }
+// The members with the parents of j too. The word with j's own bit stands apart, and comes back: parents are often near.
+fn gather_parents(w: &[u16], m: &mut [u64], own: u64, j: usize) -> u64
+    requires { ⌜ Ledger (now w) × (j < bookings (now w)) × (length (now m) ≡ bitWords) ⌝ }
+    ensures { λ r. ⌜ membersWith (now (m .exit)) (j / 64) r ≡ withParents (now (w .entry)) j (membersWith (now (m .entry)) (j / 64) own) ⌝ }
 {
     let mut word = own;
     for a in 0..layout::MOST_PARENTS {
@@ -31,19 +31,19 @@ fn mark_parents(w: &[u16], m: &mut [u64], own: u64, j: usize) -> u64
 
 // The same only if j is a member.
 fn spread_one(w: &[u16], m: &mut [u64], own: u64, j: usize) -> u64
-    requires { ⌜ Ledger (now w) × (j < bookings (now w)) × (length (now m) ≡ markWords) ⌝ }
-    ensures { λ r. ⌜ marksWith (now (m .exit)) (j / 64) r ≡ spread (now (w .entry)) j (marksWith (now (m .entry)) (j / 64) own) ⌝ }
+    requires { ⌜ Ledger (now w) × (j < bookings (now w)) × (length (now m) ≡ bitWords) ⌝ }
+    ensures { λ r. ⌜ membersWith (now (m .exit)) (j / 64) r ≡ spread (now (w .entry)) j (membersWith (now (m .entry)) (j / 64) own) ⌝ }
 {
     if bits::has_bit(own, j % bits::WORD_BITS) {
-        return mark_parents(w, m, own, j);
+        return gather_parents(w, m, own, j);
     }
     own
 }
 
 // From n - 1 down to the first number of word q, which is then done: what is left to sweep is below.
 fn sweep_word(w: &[u16], m: &mut [u64], q: usize, n: usize)
-    requires { ⌜ Ledger (now w) × (n ≤ bookings (now w)) × (length (now m) ≡ markWords) × (64 * q < n) × (n ≤ 64 * q + 64) ⌝ }
-    ensures { λ _. ⌜ sweep (now (w .entry)) (64 * q) (marksIn (now (m .exit))) ≡ sweep (now (w .entry)) n (marksIn (now (m .entry))) ⌝ }
+    requires { ⌜ Ledger (now w) × (n ≤ bookings (now w)) × (length (now m) ≡ bitWords) × (64 * q < n) × (n ≤ 64 * q + 64) ⌝ }
+    ensures { λ _. ⌜ sweep (now (w .entry)) (64 * q) (membersIn (now (m .exit))) ≡ sweep (now (w .entry)) n (membersIn (now (m .entry))) ⌝ }
 {
     let mut own = m[q];
     let mut j = n;
@@ -56,8 +56,8 @@ fn sweep_word(w: &[u16], m: &mut [u64], q: usize, n: usize)
 
 // From n - 1 down to 0, a word at a time: parents are lower, so a member is met before its parents.
 fn sweep_down(w: &[u16], m: &mut [u64], n: usize)
-    requires { ⌜ Ledger (now w) × (n ≤ bookings (now w)) × (length (now m) ≡ markWords) ⌝ }
-    ensures { λ _. ⌜ marksIn (now (m .exit)) ≡ sweep (now (w .entry)) n (marksIn (now (m .entry))) ⌝ }
+    requires { ⌜ Ledger (now w) × (n ≤ bookings (now w)) × (length (now m) ≡ bitWords) ⌝ }
+    ensures { λ _. ⌜ membersIn (now (m .exit)) ≡ sweep (now (w .entry)) n (membersIn (now (m .entry))) ⌝ }
 {
     let mut j = n;
     while 0 < j {
@@ -67,10 +67,10 @@ fn sweep_down(w: &[u16], m: &mut [u64], n: usize)
     }
 }
 
-// Marks booking i's ancestry, where nothing was marked.
-pub fn mark_ancestry(w: &[u16], m: &mut [u64], i: usize)
-    requires { ⌜ Ledger (now w) × (i < bookings (now w)) × (now m ≡ noMarks) ⌝ }
-    ensures { λ _. ⌜ marksIn (now (m .exit)) ≡ ancestry (now (w .entry)) i ⌝ }
+// Gathers booking i's ancestry, where there was no member.
+pub fn gather_ancestry(w: &[u16], m: &mut [u64], i: usize)
+    requires { ⌜ Ledger (now w) × (i < bookings (now w)) × (now m ≡ noBits) ⌝ }
+    ensures { λ _. ⌜ membersIn (now (m .exit)) ≡ ancestry (now (w .entry)) i ⌝ }
 {
     bits::set_bit(m, i);
     sweep_down(w, m, i + 1);

@@ -9,17 +9,17 @@ use Rattle.loops.specs.Search.{any}
 use Rattle.loops.proofs.Search.{any-none, any-suc}
 use Rattle.loops.proofs.Turns.{upTo-zero, upTo-more, upTo-kept}
 use Rattle.bits.specs.Bits.{bitAt, withBit}
-use Rattle.bits.specs.Marks.{markWords, noMarks, setBelow}
+use Rattle.bits.specs.Members.{bitWords, noBits, setBelow}
 use Rattle.bits.proofs.Bits.{withBit-length, bitAt-withBit, bitAt-zeros}
 
 module _ (f : ℕ → ℕ) where
-  pub setBelow-length : (i : ℕ) → length (setBelow f i) ≡ markWords
+  pub setBelow-length : (i : ℕ) → length (setBelow f i) ≡ bitWords
   unfolding setBelow
   setBelow-length i =
-      upTo-kept (λ j. withBit (f j)) (λ m. length m ≡ markWords) i (λ j l m e. withBit-length (f j) m ∙ e) noMarks (length-replicate {A = ℕ} markWords 0)
+      upTo-kept (λ j. withBit (f j)) (λ m. length m ≡ bitWords) i (λ j l m e. withBit-length (f j) m ∙ e) noBits (length-replicate {A = ℕ} bitWords 0)
 
   -- the turns of the loop that sets
-  pub setBelow-zero : setBelow f 0 ≡ noMarks
+  pub setBelow-zero : setBelow f 0 ≡ noBits
   unfolding setBelow
   setBelow-zero = upTo-zero _ _
 
@@ -28,7 +28,7 @@ module _ (f : ℕ → ℕ) where
   setBelow-more i = upTo-more _ i _
 
   -- a bit is set exactly if one of them is it
-  pub bitAt-setBelow : (i o : ℕ) → o < 64 * markWords → bitAt (setBelow f i) o ≡ any (λ j. eqb (f j) o) i
-  bitAt-setBelow zero o h = rw (setBelow-zero, bitAt-zeros markWords o h, any-none)
+  pub bitAt-setBelow : (i o : ℕ) → o < 64 * bitWords → bitAt (setBelow f i) o ≡ any (λ j. eqb (f j) o) i
+  bitAt-setBelow zero o h = rw (setBelow-zero, bitAt-zeros bitWords o h, any-none)
   bitAt-setBelow (suc i) o h =
       rw (← add-one i, setBelow-more i, bitAt-withBit (setBelow f i) (f i) o (omega (arith, setBelow-length i)), bitAt-setBelow i o h, add-one, any-suc)

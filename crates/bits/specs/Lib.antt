@@ -1,3 +1,3 @@
--- Bits in a row of words, and marks as such bits.
+-- Bits in a row of words, and members as such bits.
 pub mod Bits
-pub mod Marks
+pub mod Members

@@ -6,12 +6,12 @@ ghost use lib.Dec.{eqb};
 ghost use lib.ListN.{length};
 ghost use Rattle.loops.specs.Total.{count};
 ghost use Rattle.bits.specs.Bits.{bitIn, bitAt, withBit, onesIn};
-ghost use Rattle.bits.specs.Marks.{markWords};
+ghost use Rattle.bits.specs.Members.{bitWords};
 
 pub const WORD_BITS: usize = 64;
 
 // How many words have a bit for each booking, or for each ordinal.
-pub const MARK_WORDS: usize = 8;
+pub const BIT_WORDS: usize = 8;
 
 // Whether bit k of a word is set.
 pub fn has_bit(word: u64, k: usize) -> bool
@@ -51,7 +51,7 @@ pub fn set_bit(bits: &mut [u64], j: usize)
 
 // Where the numbers of j's word end, or n.
 pub fn word_end(j: usize, n: usize) -> usize
-    requires { ⌜ j < 64 * markWords ⌝ }
+    requires { ⌜ j < 64 * bitWords ⌝ }
     ensures { λ r. ⌜ r ≡ min n (64 * (j / 64) + 64) ⌝ }
 {
     let end = WORD_BITS * (j / WORD_BITS) + WORD_BITS;
@@ -67,11 +67,11 @@ fn ones(word: u64) -> usize
 
 // How many bits of eight words are set: their ones, summed.
 pub fn count_set(bits: &[u64]) -> usize
-    requires { ⌜ length (now bits) ≡ markWords ⌝ }
-    ensures { λ r. ⌜ r ≡ count (bitAt (now (bits .entry))) (64 * markWords) ⌝ }
+    requires { ⌜ length (now bits) ≡ bitWords ⌝ }
+    ensures { λ r. ⌜ r ≡ count (bitAt (now (bits .entry))) (64 * bitWords) ⌝ }
 {
     let mut found = 0;
-    for q in 0..MARK_WORDS {
+    for q in 0..BIT_WORDS {
         found += ones(bits[q]);
     }
     found

@@ -1,4 +1,4 @@
--- No number from n on is a member of an ancestry, so all the marks may be counted.
+-- No number from n on is a member of an ancestry, so all bits may be counted.
 use mathlib.Core.Path.{_≡_, refl, ap, _∙_}
 use mathlib.Core.Bool.{Bool, true, false}
 use mathlib.Core.List.{List}

@@ -1,4 +1,4 @@
-// How many members a booking's ancestry has: the ones of its eight words of marks.
+// How many members a booking's ancestry has: the ones of its eight words.
 ghost use mathlib.Core.Path.{_≡_};
 ghost use Prim.Native.Nat.{_<_};
 ghost use Rattle.rules.specs.Layout.{bookings};
@@ -10,7 +10,7 @@ pub fn size_of(w: &[u16], i: usize) -> usize
     requires { ⌜ Ledger (now w) × (i < bookings (now w)) ⌝ }
     ensures { λ r. ⌜ r ≡ sizeOf (now (w .entry)) i ⌝ }
 {
-    let mut m = [0u64; bits::MARK_WORDS];
-    ancestry::mark_ancestry(w, &mut m, i);
+    let mut m = [0u64; bits::BIT_WORDS];
+    ancestry::gather_ancestry(w, &mut m, i);
     bits::count_set(&m)
 }

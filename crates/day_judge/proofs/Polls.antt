@@ -16,7 +16,7 @@ use Rattle.loops.proofs.Search.{all→}
 use Rattle.loops.proofs.Total.{bit-le}
 use Rattle.rules.specs.Layout.{mostBookings}
 use Rattle.bits.specs.Bits.{bitAt}
-use Rattle.bits.specs.Marks.{setBelow}
+use Rattle.bits.specs.Members.{setBelow}
 use Rattle.bits.proofs.SetBelow.{bitAt-setBelow}
 use Rattle.day_file.specs.Day.{DayPoll, pollIn, polledIn}
 use Rattle.day_file.specs.Bytes.{numberBytes, joined, pollBytes, pollsSection}
@@ -69,14 +69,14 @@ module _ (l a b : List ℕ) (i o : ℕ) (fi : i < 65536) (fo : o < 65536) (f : l
       omega (arith, bit-le (eqb o 1))
 
   -- the test of the two numbers tells whether the poll is good
-  module _ (most : ℕ) (marks : List ℕ) where
+  module _ (most : ℕ) (seen : List ℕ) where
     abbrev test : Bool
-    test = not (eqb i 0) && leb i most && not (bitAt marks i)
+    test = not (eqb i 0) && leb i most && not (bitAt seen i)
 
-    same-test : pollTest most marks (readPoll l .value) ≡ test
-    same-test = ap (λ x. not (eqb x 0) && leb x most && not (bitAt marks x)) poll-booking
+    same-test : pollTest most seen (readPoll l .value) ≡ test
+    same-test = ap (λ x. not (eqb x 0) && leb x most && not (bitAt seen x)) poll-booking
 
-    pub poll-decides : (t : Bool) → t ≡ test && leb o 1 → Decides t (PollGood most marks l)
+    pub poll-decides : (t : Bool) → t ≡ test && leb o 1 → Decides t (PollGood most seen l)
     poll-decides t e = record {
       yes = λ y.
           let passed = sym e ∙ y in

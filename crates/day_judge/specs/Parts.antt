@@ -69,11 +69,11 @@ pub record BookingsGood (l : List ℕ) (n : ℕ) : Type 0 where
 
 -- the rules of a poll, where the bits set are the numbers polled before
 abbrev pub pollTest : ℕ → List ℕ → DayPoll → Bool
-pollTest most marks q = not (eqb (q .booking) 0) && leb (q .booking) most && not (bitAt marks (q .booking))
+pollTest most seen q = not (eqb (q .booking) 0) && leb (q .booking) most && not (bitAt seen (q .booking))
 
-pub record PollGood (most : ℕ) (marks l : List ℕ) : Type 0 where
+pub record PollGood (most : ℕ) (seen l : List ℕ) : Type 0 where
   pub laid : Holds pollBytes readPoll l
-  pub rules : pollTest most marks (readPoll l .value) ≡ true
+  pub rules : pollTest most seen (readPoll l .value) ≡ true
 
 -- the section, with nothing behind it
 pub record PollsGood (most : ℕ) (l : List ℕ) : Type 0 where

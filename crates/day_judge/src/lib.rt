@@ -9,7 +9,7 @@ ghost use Prim.Native.Nat.{_+_, _≤_, _<_};
 ghost use lib.ListN.{length, drop};
 ghost use Rattle.rules.specs.Layout.{mostBookings};
 ghost use Rattle.bits.specs.Bits.{withBit};
-ghost use Rattle.bits.specs.Marks.{noMarks};
+ghost use Rattle.bits.specs.Members.{noBits};
 ghost use Rattle.name_filter.specs.Names.{withNoted, namesNoted};
 ghost use Rattle.day_file.specs.Bytes.{bookingBytes};
 ghost use Rattle.day_file.specs.Decode.{readBooking, readPoll};
@@ -48,7 +48,7 @@ fn parents_good(parents: &[u16], count: usize, j: usize) -> bool
     requires { ⌜ (count ≤ length (now parents)) × (j + 1 < mostBookings) ⌝ }
     ensures { λ r. ⌜ r ≡ parentsGood j (now (parents .entry)) count ⌝ }
 {
-    let mut named = [0u64; bits::MARK_WORDS];
+    let mut named = [0u64; bits::BIT_WORDS];
     for a in 0..count {
         let p = parents[a] as usize;
         if !((p < j + 1) & !bits::is_set(&named, p)) {
@@ -134,21 +134,21 @@ fn bookings_end(file: &[u8], count: usize, filter: &mut [u64]) -> usize
 }
 
 // Sets the bit of the poll's booking, and tells whether the poll is good: of a booking other than the genesis that was not polled before, and with an outcome of 0 or 1.
-// A number past the marks sets none; it is above the most, so its poll isn't good.
-fn enter_poll(file: &[u8], at: usize, most: usize, marks: &mut [u64]) -> bool
+// A number past the bits sets none; it is above the most, so its poll isn't good.
+fn enter_poll(file: &[u8], at: usize, most: usize, seen: &mut [u64]) -> bool
     requires { ⌜ at + 4 ≤ length (now file) ⌝ }
-    ensures { λ r. ⌜ Decides r (PollGood most (now (marks .entry)) (drop at (now (file .entry)))) × (now (marks .exit) ≡ withBit (readPoll (drop at (now (file .entry))) .value .booking) (now (marks .entry))) ⌝ }
+    ensures { λ r. ⌜ Decides r (PollGood most (now (seen .entry)) (drop at (now (file .entry)))) × (now (seen .exit) ≡ withBit (readPoll (drop at (now (file .entry))) .value .booking) (now (seen .entry))) ⌝ }
 {
     let i = day_get::number_at(file, at) as usize;
     let outcome = day_get::number_at(file, at + bytes::NUMBER_BYTES);
-    let good = (i != 0) & (i <= most) & !bits::is_set(marks, i) & (outcome <= 1);
-    bits::set_bit(marks, i);
+    let good = (i != 0) & (i <= most) & !bits::is_set(seen, i) & (outcome <= 1);
+    bits::set_bit(seen, i);
     good
 }
 
-// The polls stand from the offset to the end of the file, and each is good. The marks, none at first, are scratch.
-fn polls_good(file: &[u8], at: usize, most: usize, marks: &mut [u64]) -> bool
-    requires { ⌜ (at ≤ length (now file)) × (most < mostBookings) × (now marks ≡ noMarks) ⌝ }
+// The polls stand from the offset to the end of the file, and each is good. The bits of bookings seen, none at first, are scratch.
+fn polls_good(file: &[u8], at: usize, most: usize, seen: &mut [u64]) -> bool
+    requires { ⌜ (at ≤ length (now file)) × (most < mostBookings) × (now seen ≡ noBits) ⌝ }
     ensures { λ r. ⌜ Decides r (PollsGood most (drop at (now (file .entry)))) ⌝ }
 {
     if file.len() - at < bytes::NUMBER_BYTES {
@@ -160,7 +160,7 @@ fn polls_good(file: &[u8], at: usize, most: usize, marks: &mut [u64]) -> bool
         return false;
     }
     for q in 0..polls {
-        if !enter_poll(file, start + bytes::POLL_BYTES * q, most, marks) {
+        if !enter_poll(file, start + bytes::POLL_BYTES * q, most, seen) {
             return false;
         }
     }
@@ -184,6 +184,6 @@ pub fn is_good(file: &[u8]) -> bool
     if at == 0 {
         return false;
     }
-    let mut marks = [0u64; bits::MARK_WORDS];
-    polls_good(file, at, count, &mut marks)
+    let mut seen = [0u64; bits::BIT_WORDS];
+    polls_good(file, at, count, &mut seen)
 }

@@ -1,4 +1,4 @@
-// A poll's outcome, written: a success raises and settles the ancestry of its booking, which is marked first; a failure is noted only.
+// A poll's outcome, written: a success raises and settles the ancestry of its booking, which is gathered first; a failure is noted only.
 use poll_writes::writing;
 ghost use mathlib.Core.Path.{_≡_};
 ghost use mathlib.Core.Bool.{cond};
@@ -13,9 +13,9 @@ pub fn write_outcome(w: &mut [u16], i: usize, success: bool)
     ensures { λ _. ⌜ now (w .exit) ≡ cond success (succeeded (now (w .entry)) i) (failed (now (w .entry)) i) ⌝ }
 {
     if success {
-        let mut marks = [0u64; bits::MARK_WORDS];
-        ancestry::mark_ancestry(w, &mut marks, i);
-        writing::write_success(w, &marks, i);
+        let mut members = [0u64; bits::BIT_WORDS];
+        ancestry::gather_ancestry(w, &mut members, i);
+        writing::write_success(w, &members, i);
     } else {
         writing::write_failure(w, i);
     }

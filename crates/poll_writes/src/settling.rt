@@ -6,7 +6,7 @@ ghost use Prim.Native.Nat.{ℕ, _<_};
 ghost use lib.ListN.{length};
 ghost use Rattle.rules.specs.Layout.{mostBookings, slotOf};
 ghost use Rattle.rules.specs.Poll.{prefer, follow, settleOne, settled};
-ghost use Rattle.bits.specs.Marks.{markWords, marksIn, MarkIn};
+ghost use Rattle.bits.specs.Members.{bitWords, membersIn, MemberIn};
 ghost use Rattle.poll_writes.specs.Settling.{Settleable, Settling};
 
 // Strictly above the slot's preferred booking, or nothing moves: a tie keeps the preference.
@@ -37,10 +37,10 @@ fn follow_one(w: &mut [u16], s: usize, j: usize)
     }
 }
 
-// Both for j, in this order, if it is a member, where word has its mark.
+// Both for j, in this order, if it is a member, where word has its bit.
 fn settle_one(w: &mut [u16], word: u64, j: usize)
     requires { ⌜ Settleable (now w) (slotOf (now w) j) × (j < mostBookings) ⌝ }
-    ensures { λ _. ⌜ ((m : List ℕ) → MarkIn word m j → now (w .exit) ≡ settleOne m j (now (w .entry))) ⌝ }
+    ensures { λ _. ⌜ ((m : List ℕ) → MemberIn word m j → now (w .exit) ≡ settleOne m j (now (w .entry))) ⌝ }
 {
     if bits::has_bit(word, j % bits::WORD_BITS) {
         let s = words::wide_field(w, j, layout::SLOT);
@@ -49,14 +49,14 @@ fn settle_one(w: &mut [u16], word: u64, j: usize)
     }
 }
 
-// Each member below n in rising number. A word of marks is loaded once for its numbers.
-pub fn settle(w: &mut [u16], marks: &[u64], n: usize)
-    requires { ⌜ Settling (now w) n × (length (now marks) ≡ markWords) ⌝ }
-    ensures { λ _. ⌜ now (w .exit) ≡ settled (marksIn (now (marks .entry))) n (now (w .entry)) ⌝ }
+// Each member below n in rising number. A word of members is loaded once for its numbers.
+pub fn settle(w: &mut [u16], members: &[u64], n: usize)
+    requires { ⌜ Settling (now w) n × (length (now members) ≡ bitWords) ⌝ }
+    ensures { λ _. ⌜ now (w .exit) ≡ settled (membersIn (now (members .entry))) n (now (w .entry)) ⌝ }
 {
     let mut j = 0;
     while j < n {
-        let word = marks[j / bits::WORD_BITS];
+        let word = members[j / bits::WORD_BITS];
         let end = bits::word_end(j, n);
         while j < end {
             settle_one(w, word, j);

@@ -8,7 +8,7 @@ ghost use lib.ListN.{length};
 ghost use Rattle.rules.specs.Layout.{bookings};
 ghost use Rattle.rules.specs.Sound.{Ledger};
 ghost use Rattle.rules.specs.Poll.{failed, succeededWith};
-ghost use Rattle.bits.specs.Marks.{markWords, marksIn};
+ghost use Rattle.bits.specs.Members.{bitWords, membersIn};
 
 // The states that a poll writes, as terms::vote reads them.
 const FAILED: u16 = 1;
@@ -23,13 +23,13 @@ pub fn write_failure(w: &mut [u16], i: usize)
     raising::note(w, i, FAILED);
 }
 
-// The state becomes 2; every member of the marks is raised, and only then each is settled.
-pub fn write_success(w: &mut [u16], marks: &[u64], i: usize)
-    requires { ⌜ Ledger (now w) × (i < bookings (now w)) × (length (now marks) ≡ markWords) ⌝ }
-    ensures { λ _. ⌜ now (w .exit) ≡ succeededWith (marksIn (now (marks .entry))) (now (w .entry)) i ⌝ }
+// The state becomes 2; every member is raised, and only then each is settled.
+pub fn write_success(w: &mut [u16], members: &[u64], i: usize)
+    requires { ⌜ Ledger (now w) × (i < bookings (now w)) × (length (now members) ≡ bitWords) ⌝ }
+    ensures { λ _. ⌜ now (w .exit) ≡ succeededWith (membersIn (now (members .entry))) (now (w .entry)) i ⌝ }
 {
     let n = words::wide(words::header(w, layout::BOOKINGS));
     raising::note(w, i, CHIT);
-    raising::raise(w, marks, n);
-    settling::settle(w, marks, n);
+    raising::raise(w, members, n);
+    settling::settle(w, members, n);
 }

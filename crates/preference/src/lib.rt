@@ -8,7 +8,7 @@ ghost use Rattle.loops.specs.Search.{first};
 ghost use Rattle.rules.specs.Layout.{slotWords, bookings, slotOf, entry};
 ghost use Rattle.rules.specs.Sound.{Ledger};
 ghost use Rattle.rules.specs.Readings.{isPreferred, isLast, queryOf};
-ghost use Rattle.bits.specs.Marks.{marksIn};
+ghost use Rattle.bits.specs.Members.{membersIn};
 ghost use Rattle.preference.specs.Steps.{inTheWay};
 
 // Whether word f of the entry of booking j's slot is j itself.
@@ -38,7 +38,7 @@ pub fn is_last(w: &[u16], j: usize) -> bool
 // Whether booking j is a member that is not preferred.
 fn is_in_the_way(w: &[u16], m: &[u64], j: usize) -> bool
     requires { ⌜ Ledger (now w) × (j < bookings (now w)) ⌝ }
-    ensures { λ r. ⌜ r ≡ inTheWay (now (w .entry)) (marksIn (now (m .entry))) j ⌝ }
+    ensures { λ r. ⌜ r ≡ inTheWay (now (w .entry)) (membersIn (now (m .entry))) j ⌝ }
 {
     bits::is_set(m, j) & !is_preferred(w, j)
 }
@@ -46,7 +46,7 @@ fn is_in_the_way(w: &[u16], m: &[u64], j: usize) -> bool
 // The lowest such booking, or how many bookings there are.
 fn first_in_the_way(w: &[u16], m: &[u64]) -> usize
     requires { ⌜ Ledger (now w) ⌝ }
-    ensures { λ r. ⌜ r ≡ first (inTheWay (now (w .entry)) (marksIn (now (m .entry)))) (bookings (now (w .entry))) ⌝ }
+    ensures { λ r. ⌜ r ≡ first (inTheWay (now (w .entry)) (membersIn (now (m .entry)))) (bookings (now (w .entry))) ⌝ }
 {
     let n = booking::how_many(w);
     for j in 0..n {
@@ -62,7 +62,7 @@ pub fn query_of(w: &[u16], i: usize) -> bool
     requires { ⌜ Ledger (now w) × (i < bookings (now w)) ⌝ }
     ensures { λ r. ⌜ r ≡ queryOf (now (w .entry)) i ⌝ }
 {
-    let mut m = [0u64; bits::MARK_WORDS];
-    ancestry::mark_ancestry(w, &mut m, i);
+    let mut m = [0u64; bits::BIT_WORDS];
+    ancestry::gather_ancestry(w, &mut m, i);
     first_in_the_way(w, &m) == booking::how_many(w)
 }

@@ -1,4 +1,4 @@
--- Where a workspace has grown from a sound one, its older bookings keep their ancestry, as people read it and as marks, and its size.
+-- Where a workspace has grown from a sound one, its older bookings keep their ancestry, as people read it and as a list of members, and its size.
 use mathlib.Core.Path.{_≡_, refl, sym, ap, ap₂, _∙_}
 use mathlib.Core.Bool.{Bool, true, false}
 use mathlib.Core.List.{List, [], _∷_}

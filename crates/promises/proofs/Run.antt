@@ -27,7 +27,7 @@ use Rattle.day_file.specs.Decode.{decode}
 use Rattle.day_file.specs.Replay.{namesOf, votesFor, following, inOrder, rebookBy, repollBy, replay}
 use Rattle.day_file.specs.Calls.{readFirstCall}
 use Rattle.rule_laws.proofs.Opened.{opened-ledger, header-opened, field-opened, bookings-opened}
-use Rattle.rule_laws.proofs.Ancestry.{marks→Reaches, Reaches→marks}
+use Rattle.rule_laws.proofs.Ancestry.{members→Reaches, Reaches→members}
 use Rattle.promises.specs.Run.{
   Call,
   Open,
@@ -166,11 +166,11 @@ module _ (w : List ℕ) (h : History) (right : Right w h) (i : ℕ) (votes : Lis
 
   -- a successful poll counts where its booking reaches
   counted-one : (b : Bool) (j : ℕ) → isMember (ancestry w i) j ≡ b → j < bookings w → Counted v j (i ∷ h .successes) (confidenceOf w j + bit b)
-  counted-one true j m l = rw add-one (counts (reaches-grown w v (right .ledger) same i j (able .below) .1 (marks→Reaches w i j m)) (earlier j l))
+  counted-one true j m l = rw add-one (counts (reaches-grown w v (right .ledger) same i j (able .below) .1 (members→Reaches w i j m)) (earlier j l))
   counted-one false j m l =
       rw add-zero
       (passes
-      (λ r. absurd (not-both (Reaches→marks w (right .ledger .sound) i (able .below) j (reaches-grown w v (right .ledger) same i j (able .below) .0 r)) m))
+      (λ r. absurd (not-both (Reaches→members w (right .ledger .sound) i (able .below) j (reaches-grown w v (right .ledger) same i j (able .below) .0 r)) m))
       (earlier j l))
     where
       not-both : isMember (ancestry w i) j ≡ true → isMember (ancestry w i) j ≡ false → ⊥

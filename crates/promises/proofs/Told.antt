@@ -17,7 +17,7 @@ use Rattle.rules.specs.Sound.{Ledger}
 use Rattle.rules.specs.Calls.{readingCall}
 use Rattle.rule_laws.proofs.Lookup.{found-is}
 use Rattle.rule_laws.proofs.Tested.{reading-found}
-use Rattle.rule_laws.proofs.Ancestry.{marks→Reaches, Reaches→marks}
+use Rattle.rule_laws.proofs.Ancestry.{members→Reaches, Reaches→members}
 use Rattle.rules.specs.AsRead.{FirstArm, SecondArm}
 use Rattle.rule_laws.proofs.Accepted.{accepted-is, accepted-genesis}
 use Rattle.rule_laws.proofs.Readings.{query-is, rivalsMost-is}
@@ -49,8 +49,8 @@ module _ (w : List ℕ) (ledger : Ledger w) (i : ℕ) (below : i < bookings w) w
   sized (suc n) = go (isMember (ancestry w i) n) refl (sized n)
     where
       go : (b : Bool) → isMember (ancestry w i) n ≡ b → Sized w i n (count (isMember (ancestry w i)) n) → Sized w i (suc n) (count (isMember (ancestry w i)) n + bit b)
-      go true e s = rw add-one (counts (marks→Reaches w i n e) s)
-      go false e s = rw add-zero (passes (λ r. true≢false (sym (Reaches→marks w (ledger .sound) i below n r) ∙ e)) s)
+      go true e s = rw add-one (counts (members→Reaches w i n e) s)
+      go false e s = rw add-zero (passes (λ r. true≢false (sym (Reaches→members w (ledger .sound) i below n r) ∙ e)) s)
 
   pub each-told : Told w i
   unfolding leadOf sizeOf

@@ -20,7 +20,7 @@ pub record Grown (w u : List ℕ) : Type 0 where
 unfoldable pub BookingsLast : Type 0
 BookingsLast = (c : Call) (w : List ℕ) → opens c ≡ false → Ledger w → Grown w (outcomeOf c w .words)
 
--- nor a booking's ancestry, as people read it and as marks
+-- nor a booking's ancestry, as people read it and as a list of members
 unfoldable pub AncestryLasts : Type 0
 AncestryLasts =
     (c : Call) (w : List ℕ) → opens c ≡ false → Ledger w → (i : ℕ) → i < bookings w

@@ -14,53 +14,53 @@ use Rattle.loops.specs.Turns.{upTo}
 use Rattle.loops.proofs.Turns.{upTo-kept, upTo-since}
 use Rattle.loops.proofs.Search.{all→, →all}
 use Rattle.rules.specs.Layout.{mostBookings, mostParents, none, bookings, parentOf}
-use Rattle.rules.specs.Ancestry.{Parent, isMember, mark, unmarked}
+use Rattle.rules.specs.Ancestry.{Parent, isMember, withMember, noMembers}
 use Rattle.rules.specs.Readings.{parentsAccepted, firstArm, secondArm, acceptOne, acceptedBelow, acceptedOf}
 use Rattle.rules.specs.Sound.{Sound}
 use Rattle.rules.specs.AsRead.{FirstArm, SecondArm}
 use Rattle.loops.proofs.Bools.{and-both, or-right, or-else, or-either}
-use Rattle.rule_laws.proofs.Ancestry.{length-unmarked, unmarked-zero, Parent-lt}
+use Rattle.rule_laws.proofs.Ancestry.{length-noMembers, noMembers-zero, Parent-lt}
 
--- ---- what one turn does to the marks
+-- ---- what one turn does to the members
 
--- whether booking j is accepted, given the marks below it
+-- whether booking j is accepted, given the members below it
 abbrev accepts : List ℕ → ℕ → List ℕ → Bool
 accepts w j m = eqb j 0 || firstArm w m j || secondArm w j
 
 module _ (w : List ℕ) (j : ℕ) (m : List ℕ) where
   pub length-acceptOne : length (acceptOne w j m) ≡ length m
   unfolding acceptOne
-  length-acceptOne = elim (accepts w j m) as (λ b. length (cond b (mark j m) m) ≡ length m) [ true ↦ length-set m j 1 | false ↦ refl ]
+  length-acceptOne = elim (accepts w j m) as (λ b. length (cond b (withMember j m) m) ≡ length m) [ true ↦ length-set m j 1 | false ↦ refl ]
 
   -- another booking's mark stays
   acceptOne-other : (k : ℕ) → k ≢ j → getD (acceptOne w j m) k 0 ≡ getD m k 0
   unfolding acceptOne
-  acceptOne-other k d = elim (accepts w j m) as (λ b. getD (cond b (mark j m) m) k 0 ≡ getD m k 0) [ true ↦ getD-set-other m j k 1 0 d | false ↦ refl ]
+  acceptOne-other k d = elim (accepts w j m) as (λ b. getD (cond b (withMember j m) m) k 0 ≡ getD m k 0) [ true ↦ getD-set-other m j k 1 0 d | false ↦ refl ]
 
   -- its own says whether it is accepted
   acceptOne-same : j < length m → getD m j 0 ≡ 0 → isMember (acceptOne w j m) j ≡ accepts w j m
   unfolding acceptOne
   acceptOne-same h z =
-      elim (accepts w j m) as (λ b. isMember (cond b (mark j m) m) j ≡ b)
+      elim (accepts w j m) as (λ b. isMember (cond b (withMember j m) m) j ≡ b)
       [ true ↦ eq-eqb _ 1 (getD-set-same m j 1 0 h) | false ↦ ne-eqb (getD m j 0) 1 (λ e. omega arith) ]
 
--- ---- the marks of the sweep
+-- ---- the members of the sweep
 
 module _ (w : List ℕ) where
   pub length-acceptedBelow : (n : ℕ) → length (acceptedBelow w n) ≡ mostBookings
   length-acceptedBelow n =
-      upTo-kept (acceptOne w) (λ v. length v ≡ mostBookings) n (λ j l v e. length-acceptOne w j v ∙ e) unmarked length-unmarked
+      upTo-kept (acceptOne w) (λ v. length v ≡ mostBookings) n (λ j l v e. length-acceptOne w j v ∙ e) noMembers length-noMembers
 
   -- no mark before its turn
   acceptedBelow-above : (n k : ℕ) → n ≤ k → getD (acceptedBelow w n) k 0 ≡ 0
   acceptedBelow-above n k h =
-      upTo-kept (acceptOne w) (λ v. getD v k 0 ≡ 0) n (λ j l v e. acceptOne-other w j v k (λ q. omega arith) ∙ e) unmarked (unmarked-zero k)
+      upTo-kept (acceptOne w) (λ v. getD v k 0 ≡ 0) n (λ j l v e. acceptOne-other w j v k (λ q. omega arith) ∙ e) noMembers (noMembers-zero k)
 
   -- and none changes after it
   pub acceptedBelow-is : (n j : ℕ) → j < n → isMember (acceptedBelow w n) j ≡ acceptedOf w j
   unfolding acceptedOf upTo
   acceptedBelow-is n j l =
-      upTo-since (acceptOne w) (λ v. isMember v j ≡ acceptedOf w j) n j l unmarked refl
+      upTo-since (acceptOne w) (λ v. isMember v j ≡ acceptedOf w j) n j l noMembers refl
       (λ k u h v e. ap (λ x. eqb x 1) (acceptOne-other w k v j (λ q. omega arith)) ∙ e)
 
   accepted-turn : (i : ℕ) → i < mostBookings → acceptedOf w i ≡ accepts w i (acceptedBelow w i)

@@ -19,7 +19,7 @@ use Rattle.rules.specs.Sound.{Sound}
 use Rattle.rules.specs.Readings.{isPreferred, queryOf, acceptedOf, isRival, rivalConfidence, rivalsMost, leadOf, sizeOf}
 use Rattle.rules.specs.AsRead.{Rival, MostOfRivals}
 use Rattle.loops.proofs.Bools.{or-right, or-else}
-use Rattle.rule_laws.proofs.Ancestry.{Reaches-le, marks→Reaches, Reaches→marks, member-self}
+use Rattle.rule_laws.proofs.Ancestry.{Reaches-le, members→Reaches, Reaches→members, member-self}
 
 -- 511: what a confidence, a counter and a lead can reach
 abbrev pub mostConfidence : ℕ
@@ -103,12 +103,12 @@ module _ (w : List ℕ) (sound : Sound w) where
       to e j r =
           eqb-true _ _
           (or-right _ _ (all→ (λ k. not (isMember (ancestry w i) k) || isPreferred w k) (bookings w) e j (omega (arith, Reaches-le w sound h r)))
-          (ap not (Reaches→marks w sound i h j r)))
+          (ap not (Reaches→members w sound i h j r)))
 
       from : ((j : ℕ) → Reaches w i j → preferredIn w (slotOf w j) ≡ j) → queryOf w i ≡ true
       from f =
           →all (λ k. not (isMember (ancestry w i) k) || isPreferred w k) (bookings w)
-          (λ j l. or-else _ _ (λ t. eq-eqb _ _ (f j (marks→Reaches w i j (not-false _ t)))))
+          (λ j l. or-else _ _ (λ t. eq-eqb _ _ (f j (members→Reaches w i j (not-false _ t)))))
 
 -- ---- query and accepted: 0 or 1, on any words
 

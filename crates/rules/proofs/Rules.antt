@@ -10,7 +10,7 @@ use Rattle.loops.specs.Total.{total}
 use Rattle.terms.specs.Votes.{voteOf}
 use Rattle.rules.specs.IsSound.{recordRow, ordinalsHeld}
 use Rattle.rules.specs.Layout.{mostBookings, bookings, preferredField, confidenceOf, preferredIn, withEntry}
-use Rattle.rules.specs.Ancestry.{mark}
+use Rattle.rules.specs.Ancestry.{withMember}
 use Rattle.rules.specs.Poll.{yesVotes, prefer}
 
 -- of two yes and a no, two are yes
@@ -18,9 +18,9 @@ pub yes-counts-alone : yesVotes (1 ∷ 1 ∷ 255 ∷ []) ≡ 2
 unfolding voteOf total
 yes-counts-alone = refl
 
--- a booking that two paths reach is marked once
-pub marked-once : (p : ℕ) (m : List ℕ) → mark p (mark p m) ≡ mark p m
-marked-once p m = set-set m p 1 1
+-- a booking that two paths reach is gathered once
+pub gathered-once : (p : ℕ) (m : List ℕ) → withMember p (withMember p m) ≡ withMember p m
+gathered-once p m = set-set m p 1 1
 
 -- a rival that draws level moves no word
 pub draw-moves-nothing : (s j : ℕ) (w : List ℕ) → confidenceOf w j ≡ confidenceOf w (preferredIn w s) → prefer s j w ≡ w

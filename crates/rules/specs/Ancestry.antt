@@ -22,31 +22,31 @@ pub data Reaches (w : List ℕ) (i : ℕ) : ℕ → Type 0 where
   self : Reaches w i i
   up : {j p : ℕ} → Reaches w i j → Parent w j p → Reaches w i p
 
--- ---- the same as marks: 1 at each member, once however many paths lead there
+-- ---- the same as a list: 1 at each member, once however many paths lead there
 
 abbrev pub isMember : List ℕ → ℕ → Bool
 isMember m j = eqb (getD m j 0) 1
 
--- the marks with p marked too; an unused place is past the end and marks nothing
-abbrev pub mark : ℕ → List ℕ → List ℕ
-mark p m = set m p 1
+-- the members with p too; an unused place is past the end and adds nobody
+abbrev pub withMember : ℕ → List ℕ → List ℕ
+withMember p m = set m p 1
 
--- the marks with the parents of j too
-abbrev pub markParents : List ℕ → ℕ → List ℕ → List ℕ
-markParents w j m = upTo (λ a. mark (parentOf w j a)) mostParents m
+-- the members with the parents of j too
+abbrev pub withParents : List ℕ → ℕ → List ℕ → List ℕ
+withParents w j m = upTo (λ a. withMember (parentOf w j a)) mostParents m
 
 -- the same only if j is a member
 unfoldable pub spread : List ℕ → ℕ → List ℕ → List ℕ
-spread w j m = cond (isMember m j) (markParents w j m) m
+spread w j m = cond (isMember m j) (withParents w j m) m
 
 -- from j - 1 down to 0: parents are lower, so a member is met before its parents
 unfoldable pub sweep : List ℕ → ℕ → List ℕ → List ℕ
 sweep w zero m = m
 sweep w (suc j) m = sweep w j (spread w j m)
 
-abbrev pub unmarked : List ℕ
-unmarked = replicate mostBookings 0
+abbrev pub noMembers : List ℕ
+noMembers = replicate mostBookings 0
 
--- the marks of booking i's ancestry
+-- the members of booking i's ancestry
 unfoldable pub ancestry : List ℕ → ℕ → List ℕ
-ancestry w i = sweep w (suc i) (mark i unmarked)
+ancestry w i = sweep w (suc i) (withMember i noMembers)

@@ -9,7 +9,7 @@ use Rattle.loops.specs.Search.{all}
 use Rattle.loops.specs.Total.{bit, count, greatest}
 use Rattle.terms.specs.declared.answer.Reading.{Reading}
 use Rattle.terms.specs.declared.answer.Reading.the-variants.{Query, Accepted, Lead, Confidence, Size}
-use Rattle.rules.specs.Ancestry.{ancestry, isMember, mark, unmarked}
+use Rattle.rules.specs.Ancestry.{ancestry, isMember, withMember, noMembers}
 use Rattle.rules.specs.Layout.{
   mostParents,
   none,
@@ -61,13 +61,13 @@ secondArm w j = isPreferred w j && isLast w j && ltb (settingIn w .beta2) (count
 abbrev pub isAccepted : List ℕ → List ℕ → ℕ → Bool
 isAccepted w m j = eqb j 0 || firstArm w m j || secondArm w j
 
--- the marks with j marked too, if it is accepted
+-- the members with j marked too, if it is accepted
 unfoldable pub acceptOne : List ℕ → ℕ → List ℕ → List ℕ
-acceptOne w j m = cond (isAccepted w m j) (mark j m) m
+acceptOne w j m = cond (isAccepted w m j) (withMember j m) m
 
 -- the accepted bookings below n, marked in rising number: parents are lower
 abbrev pub acceptedBelow : List ℕ → ℕ → List ℕ
-acceptedBelow w n = upTo (acceptOne w) n unmarked
+acceptedBelow w n = upTo (acceptOne w) n noMembers
 
 unfoldable pub acceptedOf : List ℕ → ℕ → Bool
 acceptedOf w i = isMember (acceptedBelow w (suc i)) i

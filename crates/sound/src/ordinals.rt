@@ -3,12 +3,12 @@ ghost use mathlib.Core.Path.{_≡_};
 ghost use Prim.Native.Nat.{_+_};
 ghost use Rattle.bits.specs.Bits.{bitAt};
 ghost use Rattle.loops.specs.Search.{all};
-ghost use Rattle.sound.specs.Ordinals.{MarkedTo};
+ghost use Rattle.sound.specs.Ordinals.{SeenTo};
 
-// Whether each ordinal from 1 to p is marked. 0 is, and none above p: so there are p + 1 marks exactly if they all are.
-pub(crate) fn all_marked(marks: &[u64], p: usize) -> bool
-    requires { ⌜ MarkedTo p (now marks) ⌝ }
-    ensures { λ r. ⌜ r ≡ all (λ o. bitAt (now (marks .entry)) (o + 1)) p ⌝ }
+// Whether each ordinal from 1 to p is seen. 0 is, and none above p: so there are p + 1 bits exactly if they all are.
+pub(crate) fn all_seen(seen: &[u64], p: usize) -> bool
+    requires { ⌜ SeenTo p (now seen) ⌝ }
+    ensures { λ r. ⌜ r ≡ all (λ o. bitAt (now (seen .entry)) (o + 1)) p ⌝ }
 {
-    bits::count_set(marks) == p + 1
+    bits::count_set(seen) == p + 1
 }

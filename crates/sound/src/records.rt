@@ -27,9 +27,9 @@ pub(crate) fn chits(w: &[u16], n: usize) -> usize
     found
 }
 
-// A record below n other than the genesis, where the marks are the ordinals of the lower ones and fresh tells that none of them has its name.
-fn booking_good(w: &[u16], i: usize, marks: &[u64], fresh: bool) -> bool
-    requires { ⌜ Reached (now w) i (now marks) × (fresh ≡ nameNew (now w) i) ⌝ }
+// A record below n other than the genesis, where seen has the ordinals of the lower ones and fresh tells that none of them has its name.
+fn booking_good(w: &[u16], i: usize, seen: &[u64], fresh: bool) -> bool
+    requires { ⌜ Reached (now w) i (now seen) × (fresh ≡ nameNew (now w) i) ⌝ }
     ensures { λ r. ⌜ r ≡ bookingGood (now (w .entry)) i ⌝ }
 {
     let s = words::wide_field(w, i, layout::SLOT);
@@ -39,33 +39,33 @@ fn booking_good(w: &[u16], i: usize, marks: &[u64], fresh: bool) -> bool
         & (s < layout::SLOTS)
         & sound_rows::record::parents_good(w, i)
         & sound_rows::record::state_good(w, i)
-        & ((o == 0) | !bits::is_set(marks, o))
+        & ((o == 0) | !bits::is_set(seen, o))
 }
 
 // A record below n, where limit is the number of records in state 2.
-fn record_good(w: &[u16], i: usize, limit: usize, marks: &[u64], fresh: bool) -> bool
-    requires { ⌜ Reached (now w) i (now marks) × (limit ≡ chits (now w)) × (fresh ≡ nameNew (now w) i) ⌝ }
+fn record_good(w: &[u16], i: usize, limit: usize, seen: &[u64], fresh: bool) -> bool
+    requires { ⌜ Reached (now w) i (now seen) × (limit ≡ chits (now w)) × (fresh ≡ nameNew (now w) i) ⌝ }
     ensures { λ r. ⌜ r ≡ recordGood (now (w .entry)) i ⌝ }
 {
     let confidence = words::wide_field(w, i, layout::CONFIDENCE);
     if i == 0 {
         return sound_rows::record::genesis_good(w) & (confidence <= limit);
     }
-    booking_good(w, i, marks, fresh) & (confidence <= limit)
+    booking_good(w, i, seen, fresh) & (confidence <= limit)
 }
 
-// The lowest of the n records that breaks a rule, or n. The ordinals of those before it are marked then. The filter, of no names at first, is scratch.
-fn bad_record(w: &[u16], n: usize, limit: usize, marks: &mut [u64], filter: &mut [u64]) -> usize
-    requires { ⌜ HasBookings (now w) n × Reached (now w) 0 (now marks) × (limit ≡ chits (now w)) × (now filter ≡ namesBelow (now w) 0) ⌝ }
-    ensures { λ r. ⌜ (r ≡ first (λ i. not (recordGood (now (w .entry)) i)) n) × (now (marks .exit) ≡ ordinalsBelow (now (w .entry)) r) ⌝ }
+// The lowest of the n records that breaks a rule, or n. The ordinals of those before it are seen then. The filter, of no names at first, is scratch.
+fn bad_record(w: &[u16], n: usize, limit: usize, seen: &mut [u64], filter: &mut [u64]) -> usize
+    requires { ⌜ HasBookings (now w) n × Reached (now w) 0 (now seen) × (limit ≡ chits (now w)) × (now filter ≡ namesBelow (now w) 0) ⌝ }
+    ensures { λ r. ⌜ (r ≡ first (λ i. not (recordGood (now (w .entry)) i)) n) × (now (seen .exit) ≡ ordinalsBelow (now (w .entry)) r) ⌝ }
 {
     for i in 0..n {
         let fresh = name_filter::enter(w, i, filter);
-        if !record_good(w, i, limit, marks, fresh) {
+        if !record_good(w, i, limit, seen, fresh) {
             return i;
         }
         let o = words::wide_field(w, i, layout::ORDINAL);
-        bits::set_bit(marks, o);
+        bits::set_bit(seen, o);
     }
     n
 }
@@ -89,13 +89,13 @@ pub(crate) fn bad_row(w: &[u16], n: usize, limit: usize) -> usize
     ensures { λ r. ⌜ r ≡ badRecord (now (w .entry)) ⌝ }
 {
     let p = words::wide(words::header(w, layout::POLLS));
-    let mut marks = [0u64; bits::MARK_WORDS];
+    let mut seen = [0u64; bits::BIT_WORDS];
     let mut filter = [0u64; name_filter::FILTER_WORDS];
-    let row = bad_record(w, n, limit, &mut marks, &mut filter);
+    let row = bad_record(w, n, limit, &mut seen, &mut filter);
     if row != n {
         return row;
     }
-    if ordinals::all_marked(&marks, p) {
+    if ordinals::all_seen(&seen, p) {
         return stray_record(w, n);
     }
     n

@@ -8,7 +8,7 @@ ghost use Rattle.loops.specs.Total.{bit};
 ghost use Rattle.rules.specs.Layout.{bookings};
 ghost use Rattle.rules.specs.Readings.{acceptedBelow};
 ghost use Rattle.rules.specs.Sound.{Ledger};
-ghost use Rattle.bits.specs.Marks.{marksIn};
+ghost use Rattle.bits.specs.Members.{membersIn};
 ghost use Rattle.put.specs.Put.{Put};
 ghost use Rattle.text_print.specs.Columns.{rowPrints};
 ghost use Rattle.text_listing.specs.Listed.{listRow, rowsPrint, listPrints, rowMost, lineMost};
@@ -25,7 +25,7 @@ fn flag(b: bool) -> u64
 
 // Number, slot, state, confidence, preferred, accepted. The accepted bookings are marked.
 fn row_of(w: &[u16], accepted: &[u64], i: usize) -> [u64; 6]
-    requires { ⌜ Ledger (now w) × (i < bookings (now w)) × (marksIn (now accepted) ≡ acceptedBelow (now w) (bookings (now w))) ⌝ }
+    requires { ⌜ Ledger (now w) × (i < bookings (now w)) × (membersIn (now accepted) ≡ acceptedBelow (now w) (bookings (now w))) ⌝ }
     ensures { λ r. ⌜ r ≡ listRow (now (w .entry)) i ⌝ }
 {
     let slot = booking::slot_of(w, i);
@@ -45,7 +45,7 @@ fn row_of(w: &[u16], accepted: &[u64], i: usize) -> [u64; 6]
 
 // The row of booking i.
 fn put_one(w: &[u16], accepted: &[u64], i: usize, out: &mut [u8], at: usize) -> usize
-    requires { ⌜ Ledger (now w) × (i < bookings (now w)) × (marksIn (now accepted) ≡ acceptedBelow (now w) (bookings (now w))) × (at + rowMost ≤ length (now out)) ⌝ }
+    requires { ⌜ Ledger (now w) × (i < bookings (now w)) × (membersIn (now accepted) ≡ acceptedBelow (now w) (bookings (now w))) × (at + rowMost ≤ length (now out)) ⌝ }
     ensures { λ r. ⌜ Put (now (out .entry)) at (rowPrints (listRow (now (w .entry)) i)) r (now (out .exit)) ⌝ }
 {
     let row = row_of(w, accepted, i);
@@ -54,7 +54,7 @@ fn put_one(w: &[u16], accepted: &[u64], i: usize, out: &mut [u8], at: usize) -> 
 
 // The rows of all bookings in rising number.
 fn put_rows(w: &[u16], accepted: &[u64], out: &mut [u8], at: usize) -> usize
-    requires { ⌜ Ledger (now w) × (marksIn (now accepted) ≡ acceptedBelow (now w) (bookings (now w))) × (at + rowMost * bookings (now w) ≤ length (now out)) ⌝ }
+    requires { ⌜ Ledger (now w) × (membersIn (now accepted) ≡ acceptedBelow (now w) (bookings (now w))) × (at + rowMost * bookings (now w) ≤ length (now out)) ⌝ }
     ensures { λ r. ⌜ Put (now (out .entry)) at (rowsPrint (now (w .entry)) (bookings (now (w .entry)))) r (now (out .exit)) ⌝ }
 {
     let n = booking::how_many(w);
@@ -65,7 +65,7 @@ fn put_rows(w: &[u16], accepted: &[u64], out: &mut [u8], at: usize) -> usize
     next
 }
 
-// One pass marks all accepted bookings; the rows only look.
+// One pass members all accepted bookings; the rows only look.
 pub fn put_list(w: &[u16], out: &mut [u8], at: usize) -> usize
     requires { ⌜ Ledger (now w) × (at + lineMost ≤ length (now out)) ⌝ }
     ensures { λ r. ⌜ Put (now (out .entry)) at (listPrints (now (w .entry))) r (now (out .exit)) ⌝ }

@@ -2,8 +2,8 @@
 use mathlib.Core.Path.{ap, _∙_}
 use borrow.Author.Needs.{needs}
 use Rattle.rules.specs.Readings.{acceptOne}
-use Rattle.bits.specs.Marks.{marksIn}
-use Rattle.bits.proofs.Marks.{mark-bit}
+use Rattle.bits.specs.Members.{membersIn}
+use Rattle.bits.proofs.Members.{withMember-bit}
 use Rattle.acceptance.proofs.accept_one.Statement.{statement}
 use Rattle.acceptance.proofs.accept_one.Tie as tie
 
@@ -20,7 +20,7 @@ accepted : tie.Need-returns
 unfolding acceptOne
 accepted c =
     let test = c .before .before .before .before in
-    rw (← test .before .is-accepted .ensures, test .if1 .taken) (ap marksIn (c .before .before .set-bit .ensures) ∙ mark-bit _ _)
+    rw (← test .before .is-accepted .ensures, test .if1 .taken) (ap membersIn (c .before .before .set-bit .ensures) ∙ withMember-bit _ _)
 
 same-length-2 : tie.Need-same-length-2
 same-length-2 c = search needs

@@ -1,6 +1,6 @@
--- No bits are no marks: the definition starts from these.
+-- No bits are no members: the definition starts from these.
 use borrow.Author.Needs.{needs}
-use Rattle.bits.proofs.Marks.{noMarks-are}
+use Rattle.bits.proofs.Members.{noBits-are}
 use Rattle.acceptance.proofs.accepted_below.Statement.{statement}
 use Rattle.acceptance.proofs.accepted_below.Tie as tie
 
@@ -11,7 +11,7 @@ accept-below-requires : tie.Need-accept-below-requires
 accept-below-requires c κs = search needs
 
 returns : tie.Need-returns
-returns c = rw noMarks-are at (c .before .accept-below .ensures)
+returns c = rw noBits-are at (c .before .accept-below .ensures)
 
 pub accepted-below-spec : {M : Type 1} → statement M
 accepted-below-spec =

@@ -3,7 +3,7 @@ use mathlib.Core.Path.{sym, _∙_}
 use native.Mathlib.Numerals.{add-one}
 use borrow.Author.Needs.{needs}
 use Rattle.rules.specs.Readings.{acceptedOf}
-use Rattle.bits.proofs.Marks.{member-bit, noMarks-are}
+use Rattle.bits.proofs.Members.{member-bit, noBits-are}
 use Rattle.acceptance.proofs.accepted_of.Statement.{statement}
 use Rattle.acceptance.proofs.accepted_of.Tie as tie
 
@@ -26,7 +26,7 @@ returns : tie.Need-returns
 unfolding acceptedOf
 returns c =
     let start = c .before .before .before .before .before .before in
-    simp (c .before .before .before .accept-below .ensures, noMarks-are, add-one (start .args .i)) at (c .is-set .ensures ∙ sym (member-bit _ _))
+    simp (c .before .before .before .accept-below .ensures, noBits-are, add-one (start .args .i)) at (c .is-set .ensures ∙ sym (member-bit _ _))
 
 pub accepted-of-spec : {M : Type 1} → statement M
 accepted-of-spec =

@@ -5,13 +5,13 @@ use native.Mathlib.Omega.{arith}
 use borrow.Author.Needs.{needs}
 use Rattle.loops.proofs.Search.{Searched, search-start, search-hit, search-miss, search-over}
 use Rattle.rules.specs.Layout.{mostParents}
-use Rattle.bits.specs.Marks.{marksIn}
+use Rattle.bits.specs.Members.{membersIn}
 use Rattle.acceptance.specs.Steps.{unaccepted}
 use Rattle.acceptance.proofs.first_unaccepted.Statement.{statement}
 use Rattle.acceptance.proofs.first_unaccepted.Tie as tie
 
 abbrev Inv-loop : tie.InvT-loop
-Inv-loop w m j a₀ a = (a ≤ mostParents) × Searched (unaccepted w (marksIn m) j) mostParents a
+Inv-loop w m j a₀ a = (a ≤ mostParents) × Searched (unaccepted w (membersIn m) j) mostParents a
 
 abbrev μ-loop : tie.MeasureT-loop
 μ-loop w m j a₀ a = mostParents - a

@@ -1,7 +1,7 @@
 -- The tests of the definition, at the parent that the call ensures.
 use mathlib.Core.Path.{sym, _∙_}
 use borrow.Author.Needs.{needs}
-use Rattle.bits.proofs.Marks.{member-bit}
+use Rattle.bits.proofs.Members.{member-bit}
 use Rattle.acceptance.proofs.is_unaccepted.Statement.{statement}
 use Rattle.acceptance.proofs.is_unaccepted.Tie as tie
 

@@ -6,12 +6,12 @@ use lib.ListN.{length}
 use borrow.Author.Needs.{needs}
 use Rattle.rules.specs.Ancestry.{sweep}
 use Rattle.rule_laws.proofs.Ancestry.{sweep-done}
-use Rattle.bits.specs.Marks.{markWords, marksIn}
+use Rattle.bits.specs.Members.{bitWords, membersIn}
 use Rattle.ancestry.proofs.sweep_down.Statement.{statement}
 use Rattle.ancestry.proofs.sweep_down.Tie as tie
 
 abbrev Inv-loop : tie.InvT-loop
-Inv-loop w m₀ n j₀ m j = (j ≤ n) × (length m ≡ markWords) × (sweep w n (marksIn m₀) ≡ sweep w j (marksIn m))
+Inv-loop w m₀ n j₀ m j = (j ≤ n) × (length m ≡ bitWords) × (sweep w n (membersIn m₀) ≡ sweep w j (membersIn m))
 
 abbrev μ-loop : tie.MeasureT-loop
 μ-loop w m₀ n j₀ m j = j

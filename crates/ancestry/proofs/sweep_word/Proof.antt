@@ -6,13 +6,13 @@ use lib.ListN.{length, length-set}
 use lib.Seq.{set-getD}
 use Rattle.rules.specs.Ancestry.{sweep}
 use Rattle.rule_laws.proofs.Ancestry.{sweep-turn}
-use Rattle.bits.specs.Marks.{markWords, marksIn, marksWith}
+use Rattle.bits.specs.Members.{bitWords, membersIn, membersWith}
 use Rattle.ancestry.proofs.sweep_word.Statement.{statement}
 use Rattle.ancestry.proofs.sweep_word.Tie as tie
 
 abbrev Inv-loop : tie.InvT-loop
 Inv-loop w m₀ q n own₀ j₀ m own j =
-    (64 * q ≤ j) × (j ≤ n) × (length m ≡ markWords) × (sweep w n (marksIn m₀) ≡ sweep w j (marksWith m q own))
+    (64 * q ≤ j) × (j ≤ n) × (length m ≡ bitWords) × (sweep w n (membersIn m₀) ≡ sweep w j (membersWith m q own))
 
 abbrev μ-loop : tie.MeasureT-loop
 μ-loop w m₀ q n own₀ j₀ m own j = j
@@ -26,7 +26,7 @@ slice-read-own c = omega (arith, c .before .before .before .pre .0 .sound .booki
 loop-holds : tie.Need-loop-holds Inv-loop μ-loop
 loop-holds c =
     let S = c .before .before .before in
-    (omega arith, omega arith, omega arith, ap (λ x. sweep (S .args .w .now) (S .args .n) (marksIn x)) (sym (set-getD (S .args .m .now) (S .args .q) 0)))
+    (omega arith, omega arith, omega arith, ap (λ x. sweep (S .args .w .now) (S .args .n) (membersIn x)) (sym (set-getD (S .args .m .now) (S .args .q) 0)))
 
 mul-loop : tie.Need-mul-loop Inv-loop μ-loop
 mul-loop c = omega (arith, c .before .before .before .before .pre .0 .sound .bookingsMost)
@@ -52,7 +52,7 @@ loop-again c =
       omega arith,
       omega arith,
       omega (arith, step .kept .1 .0),
-      turn .inv .3 ∙ sweep-turn w (turn .j) (marksWith (turn .m) (S .args .q) (turn .own)) (omega arith) ∙ ap (sweep w _) (sym (rw (here) at (step .ensures))),
+      turn .inv .3 ∙ sweep-turn w (turn .j) (membersWith (turn .m) (S .args .q) (turn .own)) (omega arith) ∙ ap (sweep w _) (sym (rw (here) at (step .ensures))),
     )
 
 mul-m : tie.Need-mul-m Inv-loop μ-loop

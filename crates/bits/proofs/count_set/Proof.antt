@@ -6,16 +6,16 @@ use borrow.Author.Needs.{needs}
 use Rattle.loops.specs.Total.{count}
 use Rattle.loops.proofs.Total.{total-zero, count-le}
 use Rattle.bits.specs.Bits.{bitAt}
-use Rattle.bits.specs.Marks.{markWords}
+use Rattle.bits.specs.Members.{bitWords}
 use Rattle.bits.proofs.Counted.{count-word}
 use Rattle.bits.proofs.count_set.Statement.{statement}
 use Rattle.bits.proofs.count_set.Tie as tie
 
 abbrev Inv-loop : tie.InvT-loop
-Inv-loop bits found₀ q₀ found q = (q ≤ markWords) × (found ≡ count (bitAt bits) (64 * q))
+Inv-loop bits found₀ q₀ found q = (q ≤ bitWords) × (found ≡ count (bitAt bits) (64 * q))
 
 abbrev μ-loop : tie.MeasureT-loop
-μ-loop bits found₀ q₀ found q = markWords - q
+μ-loop bits found₀ q₀ found q = bitWords - q
 
 loop-holds : tie.Need-loop-holds Inv-loop μ-loop
 loop-holds c = (search needs, sym (total-zero _))
@@ -48,7 +48,7 @@ loop-again c =
     (omega arith, rw (turn .inv .1, c .ones .ensures .0) (sym (count-word bits (turn .q))))
 
 returns : tie.Need-returns Inv-loop μ-loop
-returns c = let over : c .before .loop .q ≡ markWords = omega arith in rw (over) at (c .before .loop .inv .1)
+returns c = let over : c .before .loop .q ≡ bitWords = omega arith in rw (over) at (c .before .loop .inv .1)
 
 pub count-set-spec : {M : Type 1} → statement M
 count-set-spec =

@@ -44,9 +44,9 @@ told c =
     let l = drop (S .at) file in
     let a = drop (S .at + 2) file in
     let b = drop (S .at + 2 + 2) file in (
-      poll-decides l a b i o (search needs) (search needs) (N .number-at .ensures) (O .number-at2 .ensures) (S .most) (S .marks .now) _
+      poll-decides l a b i o (search needs) (search needs) (N .number-at .ensures) (O .number-at2 .ensures) (S .most) (S .seen .now) _
           (ap (λ (t : Bool). not (eqb i 0) && leb i (S .most) && not t && leb o 1) (I .is-set .ensures)),
-      B .set-bit .ensures ∙ ap (λ (x : ℕ). withBit x (S .marks .now)) (sym (poll-booking l a b i o (search needs) (search needs) (N .number-at .ensures) (O .number-at2 .ensures))),
+      B .set-bit .ensures ∙ ap (λ (x : ℕ). withBit x (S .seen .now)) (sym (poll-booking l a b i o (search needs) (search needs) (N .number-at .ensures) (O .number-at2 .ensures))),
     )
 
 pub enter-poll-spec : {M : Type 1} → statement M

@@ -12,7 +12,7 @@ use Rattle.loops.specs.Search.{any}
 use Rattle.loops.proofs.Bools.{and-judged}
 use Rattle.loops.proofs.Search.{Searched, search-start, search-miss, search-over, all-fails}
 use Rattle.bits.specs.Bits.{bitAt, withBit}
-use Rattle.bits.specs.Marks.{setBelow}
+use Rattle.bits.specs.Members.{setBelow}
 use Rattle.bits.proofs.SetBelow.{setBelow-length, setBelow-zero, setBelow-more, bitAt-setBelow}
 use Rattle.day_judge.proofs.parents_good.Statement.{statement}
 use Rattle.day_judge.proofs.parents_good.Tie as tie

@@ -10,7 +10,7 @@ use borrow.Author.Tests.{eq-eqb, not-true, not-false}
 use Rattle.loops.proofs.Search.{Searched, search-start, search-miss, search-over}
 use Rattle.bits.specs.Bits.{withBit}
 use Rattle.bits.proofs.Bits.{withBit-length}
-use Rattle.bits.specs.Marks.{setBelow}
+use Rattle.bits.specs.Members.{setBelow}
 use Rattle.bits.proofs.SetBelow.{setBelow-length, setBelow-zero, setBelow-more}
 use Rattle.day_file.specs.Bytes.{pollBytes}
 use Rattle.day_file.specs.Decode.{readPoll, readMany}
@@ -29,12 +29,12 @@ abbrev pollsAt : List ℕ → ℕ → ℕ → List DayPoll
 pollsAt file start polls = readMany readPoll polls (drop start file) .value
 
 abbrev Inv-loop : tie.InvT-loop
-Inv-loop file at most marks₀ polls start q₀ marks q =
-    (q ≤ polls) × (marks ≡ setBelow (polledIn (pollsAt file (at + 2) polls)) q) × HoldsMany pollBytes readPoll q (drop (at + 2) file)
+Inv-loop file at most seen₀ polls start q₀ seen q =
+    (q ≤ polls) × (seen ≡ setBelow (polledIn (pollsAt file (at + 2) polls)) q) × HoldsMany pollBytes readPoll q (drop (at + 2) file)
     × Searched (λ k. not (pollPasses most (pollsAt file (at + 2) polls) k)) polls q
 
 abbrev μ-loop : tie.MeasureT-loop
-μ-loop file at most marks₀ polls start q₀ marks q = polls - q
+μ-loop file at most seen₀ polls start q₀ seen q = polls - q
 
 sub-if1 : tie.Need-sub-if1 Inv-loop μ-loop
 sub-if1 c = search needs
@@ -96,8 +96,8 @@ add-enter-poll c = omega arith
 enter-poll-requires : tie.Need-enter-poll-requires Inv-loop μ-loop
 enter-poll-requires c κs = omega arith
 
--- the marks are as long as at the start
-same-long : (L : tie.At-loop Inv-loop μ-loop) → length (L .loop .marks) ≡ length (S (L .before .before) .args .marks .now)
+-- the bits are as many as at the start
+same-long : (L : tie.At-loop Inv-loop μ-loop) → length (L .loop .seen) ≡ length (S (L .before .before) .args .seen .now)
 same-long L =
     let N = L .before .before in
     ap length (L .loop .inv .1) ∙ setBelow-length (polledIn (polls N)) (L .loop .q) ∙ sym (ap length (S N .pre .2))
@@ -114,7 +114,7 @@ module _ (G : tie.After-enter-poll Inv-loop μ-loop) where
   q = L .loop .q
 
   -- its test is the law's
-  tests : pollTest (S N .args .most) (L .loop .marks) (readPoll (drop (at N + 2 + 4 * q) (file N)) .value) ≡ pollPasses (S N .args .most) (polls N) q
+  tests : pollTest (S N .args .most) (L .loop .seen) (readPoll (drop (at N + 2 + 4 * q) (file N)) .value) ≡ pollPasses (S N .args .most) (polls N) q
   tests =
       ap (λ m. pollTest (S N .args .most) m (readPoll (drop (at N + 2 + 4 * q) (file N)) .value)) (L .loop .inv .1)
       ∙ poll-rules (file N) (at N) (p N) (small N) (N .number-at .ensures) (S N .args .most) q (omega arith) (omega arith)

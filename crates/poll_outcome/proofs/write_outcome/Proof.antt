@@ -1,13 +1,13 @@
--- The outcome chooses between what a success leaves, with the marks of the ancestry, and what a failure leaves.
+-- The outcome chooses between what a success leaves, with the members of the ancestry, and what a failure leaves.
 use borrow.Author.Needs.{needs}
 use Rattle.poll_outcome.proofs.write_outcome.Statement.{statement}
 use Rattle.poll_outcome.proofs.write_outcome.Tie as tie
 
-slice-aggregate-mark-ancestry : tie.Need-slice-aggregate-mark-ancestry
-slice-aggregate-mark-ancestry c = search needs
+slice-aggregate-gather-ancestry : tie.Need-slice-aggregate-gather-ancestry
+slice-aggregate-gather-ancestry c = search needs
 
-mark-ancestry-requires : tie.Need-mark-ancestry-requires
-mark-ancestry-requires c κs = search needs
+gather-ancestry-requires : tie.Need-gather-ancestry-requires
+gather-ancestry-requires c κs = search needs
 
 slice-aggregate-write-success : tie.Need-slice-aggregate-write-success
 slice-aggregate-write-success c = search needs
@@ -25,7 +25,7 @@ succeeds : tie.Need-returns
 succeeds c =
     let M = c .before .before .before .before .before .before in
     let I = M .before .before .before in
-    simp (I .if1 .taken, ← M .mark-ancestry .ensures) (c .before .before .write-success .ensures)
+    simp (I .if1 .taken, ← M .gather-ancestry .ensures) (c .before .before .write-success .ensures)
 
 same-length-2 : tie.Need-same-length-2
 same-length-2 c = search needs
@@ -39,8 +39,8 @@ pub write-outcome-spec : {M : Type 1} → statement M
 write-outcome-spec =
     tie.close
     (tie.spec
-    slice-aggregate-mark-ancestry
-    mark-ancestry-requires
+    slice-aggregate-gather-ancestry
+    gather-ancestry-requires
     slice-aggregate-write-success
     write-success-requires
     write-failure-requires

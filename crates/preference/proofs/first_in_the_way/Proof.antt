@@ -5,13 +5,13 @@ use native.Mathlib.Omega.{arith}
 use borrow.Author.Needs.{needs}
 use Rattle.loops.proofs.Search.{Searched, search-start, search-hit, search-miss, search-over}
 use Rattle.rules.specs.Layout.{bookings}
-use Rattle.bits.specs.Marks.{marksIn}
+use Rattle.bits.specs.Members.{membersIn}
 use Rattle.preference.specs.Steps.{inTheWay}
 use Rattle.preference.proofs.first_in_the_way.Statement.{statement}
 use Rattle.preference.proofs.first_in_the_way.Tie as tie
 
 abbrev Inv-loop : tie.InvT-loop
-Inv-loop w m n j₀ j = (j ≤ bookings w) × Searched (inTheWay w (marksIn m)) (bookings w) j
+Inv-loop w m n j₀ j = (j ≤ bookings w) × Searched (inTheWay w (membersIn m)) (bookings w) j
 
 abbrev μ-loop : tie.MeasureT-loop
 μ-loop w m n j₀ j = bookings w - j

@@ -2,7 +2,7 @@
 use mathlib.Core.Path.{_≡_, refl, sym, _∙_}
 use mathlib.Core.Bool.{Bool, true, false, _&&_, _||_, not}
 use borrow.Author.Needs.{needs}
-use Rattle.bits.proofs.Marks.{member-bit}
+use Rattle.bits.proofs.Members.{member-bit}
 use Rattle.preference.proofs.is_in_the_way.Statement.{statement}
 use Rattle.preference.proofs.is_in_the_way.Tie as tie
 

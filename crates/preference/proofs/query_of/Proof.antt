@@ -4,11 +4,11 @@ use Rattle.rules.specs.Readings.{queryOf}
 use Rattle.preference.proofs.query_of.Statement.{statement}
 use Rattle.preference.proofs.query_of.Tie as tie
 
-slice-aggregate-mark-ancestry : tie.Need-slice-aggregate-mark-ancestry
-slice-aggregate-mark-ancestry c = search needs
+slice-aggregate-gather-ancestry : tie.Need-slice-aggregate-gather-ancestry
+slice-aggregate-gather-ancestry c = search needs
 
-mark-ancestry-requires : tie.Need-mark-ancestry-requires
-mark-ancestry-requires c κs = search needs
+gather-ancestry-requires : tie.Need-gather-ancestry-requires
+gather-ancestry-requires c κs = search needs
 
 slice-aggregate-first-in-the-way : tie.Need-slice-aggregate-first-in-the-way
 slice-aggregate-first-in-the-way c = search needs
@@ -22,14 +22,14 @@ how-many-requires c κs = search needs
 returns : tie.Need-returns
 unfolding queryOf
 returns c =
-    rw (c .how-many .ensures, c .before .first-in-the-way .ensures, c .before .before .before .before .mark-ancestry .ensures)
+    rw (c .how-many .ensures, c .before .first-in-the-way .ensures, c .before .before .before .before .gather-ancestry .ensures)
 
 pub query-of-spec : {M : Type 1} → statement M
 query-of-spec =
     tie.close
     (tie.spec
-    slice-aggregate-mark-ancestry
-    mark-ancestry-requires
+    slice-aggregate-gather-ancestry
+    gather-ancestry-requires
     slice-aggregate-first-in-the-way
     first-in-the-way-requires
     how-many-requires

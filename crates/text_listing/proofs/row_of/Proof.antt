@@ -2,7 +2,7 @@
 use borrow.Author.Needs.{needs}
 use Rattle.rules.specs.Layout.{bookings}
 use Rattle.rule_laws.proofs.Accepted.{acceptedBelow-is}
-use Rattle.bits.proofs.Marks.{member-bit}
+use Rattle.bits.proofs.Members.{member-bit}
 use Rattle.text_listing.specs.Listed.{listRow}
 use Rattle.text_listing.proofs.row_of.Statement.{statement}
 use Rattle.text_listing.proofs.row_of.Tie as tie

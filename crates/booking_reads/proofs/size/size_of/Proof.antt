@@ -4,16 +4,16 @@ use borrow.Author.Needs.{needs}
 use Rattle.loops.specs.Total.{count}
 use Rattle.rules.specs.Layout.{mostBookings}
 use Rattle.rules.specs.Ancestry.{isMember}
-use Rattle.bits.proofs.Marks.{count-members}
+use Rattle.bits.proofs.Members.{count-members}
 use Rattle.booking_reads.proofs.Members.{members-counted}
 use Rattle.booking_reads.proofs.size.size_of.Statement.{statement}
 use Rattle.booking_reads.proofs.size.size_of.Tie as tie
 
-slice-aggregate-mark-ancestry : tie.Need-slice-aggregate-mark-ancestry
-slice-aggregate-mark-ancestry c = search needs
+slice-aggregate-gather-ancestry : tie.Need-slice-aggregate-gather-ancestry
+slice-aggregate-gather-ancestry c = search needs
 
-mark-ancestry-requires : tie.Need-mark-ancestry-requires
-mark-ancestry-requires c κs = search needs
+gather-ancestry-requires : tie.Need-gather-ancestry-requires
+gather-ancestry-requires c κs = search needs
 
 slice-aggregate-count-set : tie.Need-slice-aggregate-count-set
 slice-aggregate-count-set c = search needs
@@ -25,15 +25,15 @@ returns : tie.Need-returns
 returns c =
     let S = c .before .before .before .before .before .before in
     c .count-set .ensures ∙ count-members _ mostBookings
-    ∙ ap (λ m. count (isMember m) mostBookings) (c .before .before .before .mark-ancestry .ensures)
+    ∙ ap (λ m. count (isMember m) mostBookings) (c .before .before .before .gather-ancestry .ensures)
     ∙ members-counted (S .args .w .now) (S .pre .0 .sound) (S .args .i) (S .pre .1)
 
 pub size-of-spec : {M : Type 1} → statement M
 size-of-spec =
     tie.close
     (tie.spec
-    slice-aggregate-mark-ancestry
-    mark-ancestry-requires
+    slice-aggregate-gather-ancestry
+    gather-ancestry-requires
     slice-aggregate-count-set
     count-set-requires
     returns)

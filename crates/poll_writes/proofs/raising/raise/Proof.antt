@@ -10,23 +10,23 @@ use Rattle.loops.proofs.Turns.{upTo-zero, upTo-more}
 use Rattle.rules.specs.Layout.{size}
 use Rattle.rules.specs.Poll.{raised}
 use Rattle.rule_laws.proofs.Raised.{confidence-raised-rest}
-use Rattle.bits.specs.Marks.{marksIn}
-use Rattle.bits.proofs.Marks.{member-word}
+use Rattle.bits.specs.Members.{membersIn}
+use Rattle.bits.proofs.Members.{member-word}
 use Rattle.poll_writes.proofs.raising.raise.Statement.{statement}
 use Rattle.poll_writes.proofs.raising.raise.Tie as tie
 
 abbrev Inv-loop2 : tie.InvT-loop2
-Inv-loop2 w₀ marks n j₀ word end w j =
-    (j₀ ≤ j) × (j ≤ end) × (length w ≡ size) × ((v : List ℕ) → w₀ ≡ raised (marksIn marks) j₀ v → w ≡ raised (marksIn marks) j v)
+Inv-loop2 w₀ members n j₀ word end w j =
+    (j₀ ≤ j) × (j ≤ end) × (length w ≡ size) × ((v : List ℕ) → w₀ ≡ raised (membersIn members) j₀ v → w ≡ raised (membersIn members) j v)
 
 abbrev μ-loop2 : tie.MeasureT-loop2
-μ-loop2 w₀ marks n j₀ word end w j = end - j
+μ-loop2 w₀ members n j₀ word end w j = end - j
 
 abbrev Inv-loop : tie.InvT-loop
-Inv-loop w₀ marks n j₀ w j = (j ≤ n) × (length w ≡ size) × (w ≡ raised (marksIn marks) j w₀)
+Inv-loop w₀ members n j₀ w j = (j ≤ n) × (length w ≡ size) × (w ≡ raised (membersIn members) j w₀)
 
 abbrev μ-loop : tie.MeasureT-loop
-μ-loop w₀ marks n j₀ w j = n - j
+μ-loop w₀ members n j₀ w j = n - j
 
 loop-holds : tie.Need-loop-holds Inv-loop2 μ-loop2 Inv-loop μ-loop
 loop-holds c = (search needs, search needs, sym (upTo-zero _ _))
@@ -50,7 +50,7 @@ raise-one-requires c κs =
     let L = W .before .before .before .loop in
     let S = W .before .before .before .before .before .before in
     let done = T .inv .3 (S .args .w .now) (L .inv .2) in
-    let e = confidence-raised-rest (marksIn (S .args .marks .now)) (T .j) (S .args .w .now) (T .j) (omega arith) in
+    let e = confidence-raised-rest (membersIn (S .args .members .now)) (T .j) (S .args .w .now) (T .j) (omega arith) in
     let h = S .pre .0 .confidenceFits (T .j) (omega (arith, W .word-end .ensures)) in
     (search needs, omega (arith, W .word-end .ensures), rw (done) (rw (← e) at h))
 
@@ -66,11 +66,11 @@ loop2-again c =
     let T = c .before .before .before .before .before .loop2 in
     let W = c .before .before .before .before .before .before in
     let S = W .before .before .before .before .before .before in
-    let own = member-word (S .args .marks .now) (W .before .before .before .loop .j / 64) (T .j) (omega (arith, W .word-end .ensures)) in (
+    let own = member-word (S .args .members .now) (W .before .before .before .loop .j / 64) (T .j) (omega (arith, W .word-end .ensures)) in (
       omega arith,
       omega arith,
       omega (arith, step .kept .0),
-      λ v e. rw (upTo-more, ← T .inv .3 v e) (step .ensures (marksIn (S .args .marks .now)) own),
+      λ v e. rw (upTo-more, ← T .inv .3 v e) (step .ensures (membersIn (S .args .members .now)) own),
     )
 
 loop-less : tie.Need-loop-less Inv-loop2 μ-loop2 Inv-loop μ-loop

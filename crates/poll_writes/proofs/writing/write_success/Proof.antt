@@ -1,7 +1,7 @@
 -- A ledger has what raising and settling lean on, and noting and raising move neither slots nor entries.
 use native.Mathlib.Omega.{arith}
 use borrow.Author.Needs.{needs}
-use Rattle.bits.specs.Marks.{marksIn}
+use Rattle.bits.specs.Members.{membersIn}
 use Rattle.poll_writes.proofs.Ledgers.{Ledger→Raising, Ledger→Settling, noted-raising, raised-noted-settling}
 use Rattle.poll_writes.proofs.writing.write_success.Statement.{statement}
 use Rattle.poll_writes.proofs.writing.write_success.Tie as tie
@@ -27,7 +27,7 @@ settle-requires c κs =
     let N = R .before .before .before .before in
     let S = N .before .before .before .before .before .before .before in (
       rw (R .raise .ensures, N .note .ensures, N .before .before .wide .ensures .0, N .before .before .before .header .ensures)
-          (raised-noted-settling (S .args .w .now) (S .args .i) _ (marksIn (S .args .marks .now)) _ (omega (arith, S .pre .0 .sound .bookingsMost)) (Ledger→Settling (S .pre .0))),
+          (raised-noted-settling (S .args .w .now) (S .args .i) _ (membersIn (S .args .members .now)) _ (omega (arith, S .pre .0 .sound .bookingsMost)) (Ledger→Settling (S .pre .0))),
       S .pre .2,
     )
 

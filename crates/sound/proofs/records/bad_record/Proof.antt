@@ -1,4 +1,4 @@
--- The search for a record that breaks a rule is what is left to search from i on; marks and filter are those of the records below i.
+-- The search for a record that breaks a rule is what is left to search from i on; bits and filter are those of the records below i.
 use Prim.Native.Nat.{ℕ, _≤_, _-_}
 use mathlib.Core.Path.{_≡_, sym, ap, _∙_}
 use mathlib.Core.Bool.{not}
@@ -22,11 +22,11 @@ same-long : {k : ℕ} (f : ℕ → List ℕ) → ((i : ℕ) → length (f i) ≡
 same-long f h {i = i} {j = j} p q = ap length p ∙ h i ∙ sym (h j) ∙ ap length (sym q)
 
 abbrev Inv-loop : tie.InvT-loop
-Inv-loop w n limit marks₀ filter₀ i₀ marks filter i =
-    (i ≤ n) × (marks ≡ ordinalsBelow w i) × (filter ≡ namesBelow w i) × Searched (λ j. not (recordGood w j)) n i
+Inv-loop w n limit seen₀ filter₀ i₀ seen filter i =
+    (i ≤ n) × (seen ≡ ordinalsBelow w i) × (filter ≡ namesBelow w i) × Searched (λ j. not (recordGood w j)) n i
 
 abbrev μ-loop : tie.MeasureT-loop
-μ-loop w n limit marks₀ filter₀ i₀ marks filter i = n - i
+μ-loop w n limit seen₀ filter₀ i₀ seen filter i = n - i
 
 loop-holds : tie.Need-loop-holds Inv-loop μ-loop
 loop-holds c =
@@ -43,8 +43,8 @@ record-good-requires c κs =
     let S = L .before .before .before .before in
     (record { whole = S .pre .0 .whole; within = omega arith; polled = S .pre .1 .polled; lower = L .loop .inv .1 }, S .pre .2, E .enter .ensures .0)
 
-marks-length : tie.Need-same-length Inv-loop μ-loop
-marks-length c =
+seen-length : tie.Need-same-length Inv-loop μ-loop
+seen-length c =
     let L = c .before .before .before .before .before .before .before .before in
     let S = L .before .before .before .before in
     same-long (ordinalsBelow (S .args .w .now)) (setBelow-length (ordinalOf (S .args .w .now))) (L .loop .inv .1) (S .pre .1 .lower)
@@ -82,8 +82,8 @@ loop-again c =
     let again = search-miss _ _ _ (L .inv .3) (omega arith) (ap not (sym (G .record-good .ensures) ∙ not-false _ (M .before .before .before .if1 .left))) in
     (omega arith, rw (setBelow-more, ← L .inv .1, ← M .before .before .wide-field .ensures) (M .set-bit .ensures), rw (namesNoted-more, ← L .inv .2) (E .enter .ensures .1), again)
 
-marks-length-2 : tie.Need-same-length-3 Inv-loop μ-loop
-marks-length-2 c =
+seen-length-2 : tie.Need-same-length-3 Inv-loop μ-loop
+seen-length-2 c =
     let L = c .before in
     let S = L .before .before .before .before in
     same-long (ordinalsBelow (S .args .w .now)) (setBelow-length (ordinalOf (S .args .w .now))) (L .loop .inv .1) (S .pre .1 .lower)
@@ -109,7 +109,7 @@ bad-record-spec =
     loop-holds
     enter-requires
     record-good-requires
-    marks-length
+    seen-length
     filter-length
     bad
     wide-field-requires
@@ -117,6 +117,6 @@ bad-record-spec =
     add-i
     loop-less
     loop-again
-    marks-length-2
+    seen-length-2
     filter-length-2
     all-good)

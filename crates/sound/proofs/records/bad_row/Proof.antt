@@ -1,4 +1,4 @@
--- A record below n that is bad is the lowest row. Where none is, the marks are all the ordinals held, and tell whether row n is, before the rest.
+-- A record below n that is bad is the lowest row. Where none is, the bits are all the ordinals held, and tell whether row n is, before the rest.
 use mathlib.Core.Path.{_≡_, sym, ap, _∙_}
 use mathlib.Core.Bool.{not}
 use mathlib.Core.List.{List}
@@ -10,7 +10,7 @@ use Rattle.rules.specs.Layout.{mostBookings, bookings, polls, nameOf, ordinalOf
 use Rattle.rules.specs.IsSound.{recordGood, ordinalsHeld}
 use Rattle.bits.proofs.SetBelow.{setBelow-zero}
 use Rattle.name_filter.proofs.Names.{namesNoted-zero}
-use Rattle.sound.proofs.Marks.{marked-held, marked-to}
+use Rattle.sound.proofs.Seen.{seen-held, seen-to}
 use Rattle.sound.proofs.RecordRows.{lowestBelow, damaged-below, ordinal-missing, damaged-rest}
 use Rattle.sound.proofs.records.bad_row.Statement.{statement}
 use Rattle.sound.proofs.records.bad_row.Tie as tie
@@ -21,8 +21,8 @@ header-requires c κs = search needs
 wide-requires : tie.Need-wide-requires
 wide-requires c κs = search needs
 
-slice-aggregate-marks : tie.Need-slice-aggregate-bad-record
-slice-aggregate-marks c = search needs
+slice-aggregate-seen : tie.Need-slice-aggregate-bad-record
+slice-aggregate-seen c = search needs
 
 slice-aggregate-filter : tie.Need-slice-aggregate-bad-record-2
 slice-aggregate-filter c = search needs
@@ -33,10 +33,10 @@ bad-record-requires c κs =
     let w = S .args .w .now in
     (S .pre .0, record { whole = S .pre .0 .whole; within = omega arith; polled = omega arith; lower = sym (setBelow-zero (ordinalOf w)) }, S .pre .2, sym (namesNoted-zero (nameOf w)))
 
-slice-aggregate-all-marked : tie.Need-slice-aggregate-all-marked
-slice-aggregate-all-marked c = search needs
+slice-aggregate-all-seen : tie.Need-slice-aggregate-all-seen
+slice-aggregate-all-seen c = search needs
 
--- what the first pass found, and what it left marked
+-- what the first pass found, and what it left seen
 module _ (B : tie.After-bad-record) where
   abbrev S : tie.Start
   S = B .before .before .before .before .before .before
@@ -56,7 +56,7 @@ some-bad c =
     found B ∙ sym (damaged-below (w B) (fits B) (λ q. c .if1 .taken (found B ∙ q ∙ sym (S B .pre .0 .counts))))
 
 -- where none below n is bad
-module _ (m : tie.After-marks3) where
+module _ (m : tie.After-seen3) where
   abbrev B : tie.After-bad-record
   B = m .before .before .before .before
 
@@ -72,19 +72,19 @@ module _ (m : tie.After-marks3) where
   polls-lt : polls (w B) < bookings (w B)
   polls-lt = omega (arith, S B .pre .0 .counts, S B .pre .1)
 
-all-marked-requires : tie.Need-all-marked-requires
-all-marked-requires c κs =
-    marked-to (w (B c)) _ _ (B c .bad-record .result) (polls-lt c) (fits (B c)) (polled c) (B c .bad-record .ensures .1) (reached c) (none-below c)
+all-seen-requires : tie.Need-all-seen-requires
+all-seen-requires c κs =
+    seen-to (w (B c)) _ _ (B c .bad-record .result) (polls-lt c) (fits (B c)) (polled c) (B c .bad-record .ensures .1) (reached c) (none-below c)
 
 stray-record-requires : tie.Need-stray-record-requires
 stray-record-requires c κs = search needs
 
--- the marks tell whether each ordinal is held
-held : (c : tie.After-all-marked) → c .all-marked .result ≡ ordinalsHeld (w (B (c .before)))
+-- the bits tell whether each ordinal is held
+held : (c : tie.After-all-seen) → c .all-seen .result ≡ ordinalsHeld (w (B (c .before)))
 held c =
     let m = c .before in
-    c .all-marked .ensures
-    ∙ marked-held (w (B m)) _ _ (B m .bad-record .result) (polls-lt m) (fits (B m)) (polled m) (B m .bad-record .ensures .1) (reached m)
+    c .all-seen .ensures
+    ∙ seen-held (w (B m)) _ _ (B m .bad-record .result) (polls-lt m) (fits (B m)) (polled m) (B m .bad-record .ensures .1) (reached m)
 
 none-missing : tie.Need-returns-2
 none-missing c =
@@ -104,12 +104,12 @@ bad-row-spec =
     (tie.spec
     header-requires
     wide-requires
-    slice-aggregate-marks
+    slice-aggregate-seen
     slice-aggregate-filter
     bad-record-requires
     some-bad
-    slice-aggregate-all-marked
-    all-marked-requires
+    slice-aggregate-all-seen
+    all-seen-requires
     stray-record-requires
     none-missing
     some-missing)

@@ -1,4 +1,4 @@
--- The marks are those after the places below a: a parent of j's own word is a bit of the word apart, any other a bit of the row.
+-- The members are those after the places below a: a parent of j's own word is a bit of the word apart, any other a bit of the row.
 use Prim.Native.Nat.{_≤_, _-_, _/_}
 use mathlib.Core.Path.{_≡_, sym, ap, ap₂, _∙_}
 use mathlib.Core.Logic.{⊎-elim}
@@ -8,16 +8,16 @@ use borrow.Author.Needs.{needs}
 use Rattle.loops.specs.Turns.{upTo}
 use Rattle.loops.proofs.Turns.{upTo-zero, upTo-more}
 use Rattle.rules.specs.Layout.{mostParents, parentOf}
-use Rattle.rules.specs.Ancestry.{mark}
-use Rattle.bits.specs.Marks.{markWords, marksWith}
-use Rattle.bits.proofs.Marks.{length-marksWith, mark-own, mark-other}
+use Rattle.rules.specs.Ancestry.{withMember}
+use Rattle.bits.specs.Members.{bitWords, membersWith}
+use Rattle.bits.proofs.Members.{length-membersWith, withMember-own, withMember-other}
 use Rattle.ancestry.proofs.UnusedPlaces.{parents-done}
-use Rattle.ancestry.proofs.mark_parents.Statement.{statement}
-use Rattle.ancestry.proofs.mark_parents.Tie as tie
+use Rattle.ancestry.proofs.gather_parents.Statement.{statement}
+use Rattle.ancestry.proofs.gather_parents.Tie as tie
 
 abbrev Inv-loop : tie.InvT-loop
 Inv-loop w m₀ own j word₀ a₀ m word a =
-    (a ≤ mostParents) × (length m ≡ markWords) × (marksWith m (j / 64) word ≡ upTo (λ b. mark (parentOf w j b)) a (marksWith m₀ (j / 64) own))
+    (a ≤ mostParents) × (length m ≡ bitWords) × (membersWith m (j / 64) word ≡ upTo (λ b. withMember (parentOf w j b)) a (membersWith m₀ (j / 64) own))
 
 abbrev μ-loop : tie.MeasureT-loop
 μ-loop w m₀ own j word₀ a₀ m word a = mostParents - a
@@ -42,8 +42,8 @@ no-more c =
     let turn = c .before .before .before .before .loop in
     let w = S .args .w .now in
     turn .inv .2
-    ∙ sym (parents-done w (S .pre .0 .sound) (S .args .j) (turn .a) (marksWith (S .args .m .now) (S .args .j / 64) (S .args .own)) (S .pre .1) (omega arith) (omega (arith, c .before .before .parent .ensures))
-    (ap length (sym (turn .inv .2)) ∙ length-marksWith (turn .m) (S .args .j / 64) (turn .word) ∙ omega arith))
+    ∙ sym (parents-done w (S .pre .0 .sound) (S .args .j) (turn .a) (membersWith (S .args .m .now) (S .args .j / 64) (S .args .own)) (S .pre .1) (omega arith) (omega (arith, c .before .before .parent .ensures))
+    (ap length (sym (turn .inv .2)) ∙ length-membersWith (turn .m) (S .args .j / 64) (turn .word) ∙ omega arith))
 
 set-bit-requires : tie.Need-set-bit-requires Inv-loop μ-loop
 set-bit-requires c κs = search needs
@@ -60,18 +60,18 @@ loop-again c =
     let turn = c .before .before .before .loop in
     let parent = c .before .parent in
     let q = S .args .j / 64 in
-    let after = ap₂ mark (parent .ensures) (turn .inv .2) ∙ sym (upTo-more _ (turn .a) _) in
+    let after = ap₂ withMember (parent .ensures) (turn .inv .2) ∙ sym (upTo-more _ (turn .a) _) in
     ⊎-elim
     (λ v. (
       omega arith,
       omega (arith, ap length (v .2)),
-      ap₂ (λ x y. marksWith x q y) (v .2) (v .3 ∙ v .1 .ensures)
-          ∙ mark-own (turn .m) q (turn .word) (parent .result) (omega (arith, S .pre .0 .sound .bookingsMost)) (v .0 .taken) ∙ after,
+      ap₂ (λ x y. membersWith x q y) (v .2) (v .3 ∙ v .1 .ensures)
+          ∙ withMember-own (turn .m) q (turn .word) (parent .result) (omega (arith, S .pre .0 .sound .bookingsMost)) (v .0 .taken) ∙ after,
     ))
     (λ v. (
       omega arith,
       omega (arith, ap length (v .6), v .3 .kept .0),
-      ap₂ (λ x y. marksWith x q y) (v .6 ∙ v .3 .ensures) (v .7) ∙ mark-other (turn .m) q (turn .word) (parent .result) (v .0 .left) ∙ after,
+      ap₂ (λ x y. membersWith x q y) (v .6 ∙ v .3 .ensures) (v .7) ∙ withMember-other (turn .m) q (turn .word) (parent .result) (v .0 .left) ∙ after,
     ))
     (c .if1 .came)
 
@@ -81,8 +81,8 @@ same-length-2 c = omega arith
 all-places : tie.Need-returns-2 Inv-loop μ-loop
 all-places c = let over : c .before .loop .a ≡ mostParents = omega arith in rw (over) at (c .before .loop .inv .2)
 
-pub mark-parents-spec : {M : Type 1} → statement M
-mark-parents-spec =
+pub gather-parents-spec : {M : Type 1} → statement M
+gather-parents-spec =
     tie.close
     (tie.spec
     Inv-loop

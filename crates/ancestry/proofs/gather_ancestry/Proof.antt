@@ -1,14 +1,14 @@
--- Only i is marked, and then i + 1 bookings are swept: the definition with i + 1 for its successor.
+-- Only i is a member, and then i + 1 bookings are swept: the definition with i + 1 for its successor.
 use mathlib.Core.Path.{ap, _∙_}
 use native.Mathlib.Omega.{arith}
 use lib.ListN.{length}
 use borrow.Author.Needs.{needs}
-use Rattle.rules.specs.Ancestry.{mark, sweep}
+use Rattle.rules.specs.Ancestry.{withMember, sweep}
 use Rattle.rule_laws.proofs.Ancestry.{sweep-all}
-use Rattle.bits.specs.Marks.{marksIn}
-use Rattle.bits.proofs.Marks.{mark-bit, noMarks-are}
-use Rattle.ancestry.proofs.mark_ancestry.Statement.{statement}
-use Rattle.ancestry.proofs.mark_ancestry.Tie as tie
+use Rattle.bits.specs.Members.{membersIn}
+use Rattle.bits.proofs.Members.{withMember-bit, noBits-are}
+use Rattle.ancestry.proofs.gather_ancestry.Statement.{statement}
+use Rattle.ancestry.proofs.gather_ancestry.Tie as tie
 
 set-bit-requires : tie.Need-set-bit-requires
 set-bit-requires c κs = search needs
@@ -27,11 +27,11 @@ same-length c = search needs
 returns : tie.Need-returns
 returns c =
     let swept = c .before .before .sweep-down in
-    let marked = c .before .before .before .before .before .before .set-bit in
+    let begun = c .before .before .before .before .before .before .set-bit in
     let S = c .before .before .before .before .before .before .before .before .before .before in
     swept .ensures
-    ∙ ap (sweep _ _) (ap marksIn (marked .ensures) ∙ mark-bit (S .args .m .now) (S .args .i) ∙ ap (mark _) (ap marksIn (S .pre .2) ∙ noMarks-are)) ∙ sweep-all _ _
+    ∙ ap (sweep _ _) (ap membersIn (begun .ensures) ∙ withMember-bit (S .args .m .now) (S .args .i) ∙ ap (withMember _) (ap membersIn (S .pre .2) ∙ noBits-are)) ∙ sweep-all _ _
 
-pub mark-ancestry-spec : {M : Type 1} → statement M
-mark-ancestry-spec =
+pub gather-ancestry-spec : {M : Type 1} → statement M
+gather-ancestry-spec =
     tie.close (tie.spec set-bit-requires add-sweep-down sweep-down-requires same-length returns)

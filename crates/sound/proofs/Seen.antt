@@ -1,4 +1,4 @@
--- The marks say which ordinals the records so far hold, and their number whether one is missing.
+-- Bits say which ordinals the records so far hold, and their number whether one is missing.
 use mathlib.Core.Path.{_≡_, refl, ap, _∙_}
 use mathlib.Core.Bool.{true, cond, not, _&&_, _||_, and-eq-true-iff}
 use mathlib.Core.List.{List}
@@ -8,7 +8,7 @@ use native.Mathlib.Omega.{arith}
 use lib.Dec.{eqb, eqb·suc-suc, leb, ltb}
 use borrow.Author.Tests.{leb-true, eq-eqb, ne-eqb}
 use Rattle.bits.specs.Bits.{bitAt}
-use Rattle.bits.specs.Marks.{markWords}
+use Rattle.bits.specs.Members.{bitWords}
 use Rattle.bits.proofs.SetBelow.{setBelow-length, bitAt-setBelow}
 use Rattle.loops.specs.Search.{all}
 use Rattle.loops.specs.Total.{bit, count}
@@ -19,10 +19,10 @@ use Rattle.rules.specs.Layout.{mostBookings, slots, bookings, polls, slotOf, st
 use Rattle.rules.specs.IsSound.{nameNew, parentsGood, stateGood, bookingGood, ordinalsHeld}
 use Rattle.rules.specs.RowRules.{RulesBelow}
 use Rattle.rule_laws.proofs.RowRules.{recordRow→Rules}
-use Rattle.sound.specs.Ordinals.{ordinalsBelow, MarkedTo}
+use Rattle.sound.specs.Ordinals.{ordinalsBelow, SeenTo}
 use Rattle.sound.proofs.RecordRows.{lowestBelow, good-before}
 
--- ---- the marks judge an ordinal as a look back does
+-- ---- the bits judge an ordinal as a look back does
 
 -- where the state is good the ordinal is no more than p, and so has a bit
 ordinal-lt : (w : List ℕ) (i : ℕ) → polls w < mostBookings → stateGood w i ≡ true → ordinalOf w i < mostBookings
@@ -30,25 +30,25 @@ unfolding stateGood
 ordinal-lt w i h e =
     omega (arith, leb-true (ordinalOf w i) (polls w) (and-eq-true-iff (leb (stateOf w i) 2 && cond (eqb (stateOf w i) 0) (eqb (ordinalOf w i) 0) (not (eqb (ordinalOf w i) 0))) (leb (ordinalOf w i) (polls w)) .0 e .1))
 
-pub bookingGood-marked : (w : List ℕ) (i : ℕ) → polls w < mostBookings
+pub bookingGood-seen : (w : List ℕ) (i : ℕ) → polls w < mostBookings
     → (nameNew w i && leb 1 (slotOf w i) && ltb (slotOf w i) slots && parentsGood w i && stateGood w i
     && (eqb (ordinalOf w i) 0 || not (bitAt (ordinalsBelow w i) (ordinalOf w i)))) ≡ bookingGood w i
 unfolding bookingGood
-bookingGood-marked w i h =
+bookingGood-seen w i h =
     and-judged (nameNew w i && leb 1 (slotOf w i) && ltb (slotOf w i) slots && parentsGood w i) (stateGood w i) _ _ (λ e. rw (bitAt-setBelow (ordinalOf w) i (ordinalOf w i) (ordinal-lt w i h e)))
 
 -- ---- a pass over all records
 
-module _ (w marks : List ℕ) (p i : ℕ) (h : polls w < bookings w) (fits : bookings w ≤ mostBookings) (polled : p ≡ polls w) (marked : marks ≡ ordinalsBelow w i) (reached : i ≡ bookings w) where
-  -- the marks that it leaves say whether every ordinal is held
-  pub marked-held : all (λ o. bitAt marks (o + 1)) p ≡ ordinalsHeld w
-  marked-held =
-      rw (polled, marked, reached) (all-same _ _ (polls w) (λ o l. bitAt-setBelow (ordinalOf w) (bookings w) (o + 1) (omega arith)))
+module _ (w seen : List ℕ) (p i : ℕ) (h : polls w < bookings w) (fits : bookings w ≤ mostBookings) (polled : p ≡ polls w) (noted : seen ≡ ordinalsBelow w i) (reached : i ≡ bookings w) where
+  -- the bits that it leaves say whether every ordinal is held
+  pub seen-held : all (λ o. bitAt seen (o + 1)) p ≡ ordinalsHeld w
+  seen-held =
+      rw (polled, noted, reached) (all-same _ _ (polls w) (λ o l. bitAt-setBelow (ordinalOf w) (bookings w) (o + 1) (omega arith)))
 
   -- where no record breaks a rule they are 0 and none above p
-  pub marked-to : lowestBelow w ≡ bookings w → MarkedTo p marks
-  marked-to none-bad =
-      rw (polled, marked, reached)
+  pub seen-to : lowestBelow w ≡ bookings w → SeenTo p seen
+  seen-to none-bad =
+      rw (polled, noted, reached)
       (record {
         whole = setBelow-length (ordinalOf w) (bookings w);
         within = omega arith;
@@ -63,14 +63,14 @@ module _ (w marks : List ℕ) (p i : ℕ) (h : polls w < bookings w) (fits : boo
       rules : (j : ℕ) → j < bookings w → RulesBelow w j
       rules j u = recordRow→Rules w j (good-before w fits none-bad j u) .below u
 
--- ---- the number of marks
+-- ---- the number of bits
 
 -- that of 0, and those of 1 to p
-marks-count : (p : ℕ) (marks : List ℕ) → MarkedTo p marks → count (bitAt marks) (64 * markWords) ≡ suc (count (λ o. bitAt marks (o + 1)) p)
-marks-count p marks m =
-    let f : ℕ → ℕ = λ o. bit (bitAt marks o) in
-    let e : 64 * markWords ≡ 1 + p + (mostBookings - (1 + p)) = omega (arith, m .within) in
-    ap (count (bitAt marks)) e
+seen-count : (p : ℕ) (seen : List ℕ) → SeenTo p seen → count (bitAt seen) (64 * bitWords) ≡ suc (count (λ o. bitAt seen (o + 1)) p)
+seen-count p seen m =
+    let f : ℕ → ℕ = λ o. bit (bitAt seen o) in
+    let e : 64 * bitWords ≡ 1 + p + (mostBookings - (1 + p)) = omega (arith, m .within) in
+    ap (count (bitAt seen)) e
     ∙ total-cut f (1 + p) (mostBookings - (1 + p)) (λ o l u. ap bit (m .noneAbove o (omega arith) (omega (arith, m .within))))
     ∙ omega (
       arith,
@@ -81,7 +81,7 @@ marks-count p marks m =
       total-same (λ o. f (1 + o)) (λ o. f (o + 1)) p (λ o l. ap f (omega arith)),
     )
 
--- so p + 1 exactly if each of 1 to p is marked
-pub marks-count-all : (p : ℕ) (marks : List ℕ) → MarkedTo p marks → eqb (count (bitAt marks) (64 * markWords)) (p + 1) ≡ all (λ o. bitAt marks (o + 1)) p
-marks-count-all p marks m =
-    rw (marks-count p marks m, add-one p, eqb·suc-suc (count (λ o. bitAt marks (o + 1)) p) p) (count-all (λ o. bitAt marks (o + 1)) p)
+-- so p + 1 exactly if each of 1 to p is seen
+pub seen-count-all : (p : ℕ) (seen : List ℕ) → SeenTo p seen → eqb (count (bitAt seen) (64 * bitWords)) (p + 1) ≡ all (λ o. bitAt seen (o + 1)) p
+seen-count-all p seen m =
+    rw (seen-count p seen m, add-one p, eqb·suc-suc (count (λ o. bitAt seen (o + 1)) p) p) (count-all (λ o. bitAt seen (o + 1)) p)
