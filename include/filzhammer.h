@@ -33,13 +33,13 @@ extern "C" {
  * The workspace: FILZ_WORDS words of 16 bits.
  *
  *      0            header: n, k, a, beta1, beta2, p, 0, 0
- *      8 + 12 * b   the record of booking b, for b from 0 to 511
- *   6152 +  4 * s   the entry of slot s, for s from 0 to 255
- *   7176            the end
+ *      8 + 13 * b   the record of booking b, for b from 0 to 511
+ *   6664 +  4 * s   the entry of slot s, for s from 0 to 255
+ *   7688            the end
  *
  * Bookings are numbered from 0 in the order in which they came. Number 0 is the genesis: name 0, slot 0, no parents.
  */
-#define FILZ_WORDS 7176
+#define FILZ_WORDS 7688
 #define FILZ_BOOKINGS 512 /* with the genesis */
 #define FILZ_SLOTS 256    /* slot 0 is the genesis's alone */
 #define FILZ_PARENTS 4    /* a booking has one to four */
@@ -47,10 +47,10 @@ extern "C" {
 #define FILZ_BETA 510     /* the greatest beta2 */
 
 #define FILZ_HEADER_WORDS 8
-#define FILZ_RECORD_WORDS 12
+#define FILZ_RECORD_WORDS 13
 #define FILZ_SLOT_WORDS 4
 #define FILZ_RECORDS_START 8
-#define FILZ_SLOTS_START 6152
+#define FILZ_SLOTS_START 6664
 
 /* Instead of a number: an unused place for a parent; preferred and last of a slot that has no booking. */
 #define FILZ_NONE 65535
@@ -70,6 +70,7 @@ extern "C" {
 #define FILZ_RECORD_STATE 9   /* 0 waiting for its poll, 1 polled without a chit, 2 has a chit */
 #define FILZ_RECORD_CONFIDENCE 10
 #define FILZ_RECORD_ORDINAL 11 /* which poll was its own, from 1; 0 while it waits, and for the genesis */
+#define FILZ_RECORD_MARK 12    /* 1 if it is accepted, 0 if it is not; the genesis has 1 */
 
 /* Words of a slot entry. */
 #define FILZ_SLOT_PREFERRED 0 /* the number of the booking that this station stands for */
@@ -97,7 +98,8 @@ extern "C" {
  *   next   p, then for each poll in the order in which they were taken: its booking, and 1 if it succeeded or 0
  *
  * That is 14 bytes, 12 more for each booking but the genesis, 2 for each parent and 4 for each poll. Bookings 1, 2 and 3 have
- * at most as many parents as there are lower numbers. docs/DAYFILE.md explains a file byte by byte.
+ * at most as many parents as there are lower numbers. Who is accepted is not in it, and may come out otherwise where it is
+ * read. docs/DAYFILE.md explains a file byte by byte.
  */
 #define FILZ_FILE_LEAST 14   /* the file of the genesis alone */
 #define FILZ_FILE_MOST 12266 /* of 512 bookings with as many parents as they can have, all polled: room for every file */
@@ -108,8 +110,9 @@ extern "C" {
  *
  * The value of a refusal is 0, except for two. Theirs is the lowest row that breaks a rule:
  *  - with FILZ_DAMAGED_RECORD the number of a record, 0 to 512. Of the records below n that share a name, or an ordinal above
- *    0, all but the lowest break a rule. From n on a record breaks one unless it is all zero. An ordinal from 1 to p that no
- *    record holds is charged to number n; 512, which no record has, can only be that, a missing ordinal of a full ledger;
+ *    0, or that are marked in one slot, all but the lowest break a rule. A mark is 0 or 1, and the genesis's is 1. From n on a
+ *    record breaks a rule unless all its 13 words are zero. An ordinal from 1 to p that no record holds is charged to number n;
+ *    512, which no record has, can only be that, a missing ordinal of a full ledger;
  *  - with FILZ_DAMAGED_SLOT a slot, 0 to 255.
  * That row doesn't fit the others. The word that was hit may stand elsewhere: a state hit from 2 to 1 is one chit less, no
  * confidence may exceed the number of chits, and the genesis, which gained one by each, is named. See docs/DAMAGE.md.
@@ -138,7 +141,8 @@ enum filz_number {
 /*
  * Makes the words a ledger that has only the genesis, whatever they were before.
  *
- * k is how many votes a poll has and a how many of them must be yes; beta1 and beta2 are what filz_accepted compares with.
+ * k is how many votes a poll has and a how many of them must be yes; beta1 and beta2 are what a slot's counter has
+ * to be above for an acceptance: see filz_accepted.
  *
  * Refuses, in this order: FILZ_WRONG_LENGTH, FILZ_BAD_SETTING.
  */
@@ -146,7 +150,8 @@ uint32_t filz_open(uint16_t *ws, size_t words, uint16_t k, uint16_t a, uint16_t 
 
 /*
  * Books `name` for `slot` on parents booked earlier, which are given by their names. It waits for its poll, with
- * confidence 0. In an empty slot it is preferred at once; in another the slot only has one booking more.
+ * confidence 0. In an empty slot it is preferred at once; in another the slot only has one booking more. Nobody is accepted
+ * by a booking, and nobody loses an acceptance by one.
  *
  * Refuses, in this order: FILZ_WRONG_LENGTH, FILZ_DAMAGED_HEADER, FILZ_DAMAGED_RECORD, FILZ_DAMAGED_SLOT,
  * FILZ_NAME_TAKEN, FILZ_BAD_SLOT, FILZ_BAD_PARENTS, FILZ_UNKNOWN_PARENT, FILZ_PARENT_TWICE, FILZ_FULL.
@@ -157,8 +162,8 @@ uint32_t filz_book(uint16_t *ws, size_t words, uint64_t name, uint16_t slot, con
 /*
  * Enters the completed poll of a waiting booking, one byte for each of the k stations asked. It succeeds if at least a of
  * them are yes; no and silence count alike. Then every member of its ancestry, itself too, gains one confidence, and those
- * strictly ahead of their slot's preferred booking take its place. A failed poll only notes the booking as polled.
- * A booking is polled once.
+ * strictly ahead of their slot's preferred booking take its place. A failed poll only notes the booking as polled. After
+ * either, all bookings that then meet the rule of acceptance are marked: see filz_accepted. A booking is polled once.
  *
  * Refuses, in this order: FILZ_WRONG_LENGTH, FILZ_DAMAGED_HEADER, FILZ_DAMAGED_RECORD, FILZ_DAMAGED_SLOT,
  * FILZ_UNKNOWN_NAME, FILZ_NOT_WAITING, FILZ_WRONG_VOTES, FILZ_BAD_VOTE.
@@ -176,9 +181,13 @@ uint32_t filz_poll(uint16_t *ws, size_t words, uint64_t name, const uint8_t *vot
 uint32_t filz_query(const uint16_t *ws, size_t words, uint64_t name, int64_t *value);
 
 /*
- * 1 if the booking is accepted, else 0. The genesis is. Another booking is if it is alone in its slot, all its parents are
- * accepted and the slot's counter is above beta1; or if it is both preferred and last in its slot and the counter is above
- * beta2. Of the bookings of one slot at most one is accepted at a time.
+ * 1 if the booking is accepted, else 0: its mark, FILZ_RECORD_MARK. The genesis is marked at opening. After each poll that is
+ * taken, one that fails too, every booking is looked at in the order of the numbers, and is marked if no other of its slot is
+ * marked, and either
+ *  - it is alone in its slot, all its parents are marked and the slot's counter is above beta1; or
+ *  - it is both preferred and last in its slot and the counter is above beta2.
+ * A parent that is marked in the same turn counts. So an accepted booking stays accepted, whatever rivals come and win, until
+ * the words are opened anew or a day file is read into them; and of the bookings of one slot at most one is accepted.
  */
 uint32_t filz_accepted(const uint16_t *ws, size_t words, uint64_t name, int64_t *value);
 
@@ -196,7 +205,8 @@ uint32_t filz_size(const uint16_t *ws, size_t words, uint64_t name, int64_t *val
 
 /*
  * Writes the ledger's day file, in its first form, to the front of a buffer. The value is the file's length, FILZ_FILE_LEAST
- * to FILZ_FILE_MOST. Bytes past the file stay as they were, and so does every word; a refused call leaves every byte.
+ * to FILZ_FILE_MOST. Bytes past the file stay as they were, and so does every word; a refused call leaves every byte. The file
+ * carries no mark.
  *
  * `out` leads to `bytes` bytes, and may be NULL if there are none. It overlaps neither the workspace nor the value.
  *
@@ -209,6 +219,10 @@ uint32_t filz_write_first(const uint16_t *ws, size_t words, uint8_t *out, size_t
  * Reads a day file, in its first form, and makes the words the ledger that it tells of, whatever they were before: the one
  * that an opening with its setting, its bookings in their order and then its polls with their outcomes make. The value is 0.
  * Writing after that gives the same bytes. A refused call leaves every word, and no call changes the file.
+ *
+ * The marks too are those of these calls, with every booking made before the first poll. Where the station that wrote the file
+ * had polls between its bookings, others may be accepted here: one that was accepted there may not be, and a rival that came
+ * after it may be in its stead. Every other word of a ledger that calls have made comes back.
  *
  * `file` leads to `bytes` bytes, all of them the file's. It overlaps neither the workspace nor the value.
  *

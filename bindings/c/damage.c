@@ -35,6 +35,21 @@ static uint32_t make_ledger(void)
     return sum;
 }
 
+/* 1 was accepted, and then 3 came for its slot. */
+static uint32_t make_late_rival(void)
+{
+    const uint64_t genesis[1] = {0}, one[1] = {1};
+    const uint8_t all[3] = {FILZ_YES, FILZ_YES, FILZ_YES};
+    int64_t value;
+    uint32_t sum = filz_open(good, FILZ_WORDS, 3, 2, 1, 2, &value);
+    sum += filz_book(good, FILZ_WORDS, 1, 7, genesis, 1, &value);
+    sum += filz_book(good, FILZ_WORDS, 2, 8, one, 1, &value);
+    sum += filz_poll(good, FILZ_WORDS, 1, all, 3, &value);
+    sum += filz_poll(good, FILZ_WORDS, 2, all, 3, &value);
+    sum += filz_book(good, FILZ_WORDS, 3, 7, genesis, 1, &value);
+    return sum;
+}
+
 /* 511 bookings on the genesis, none of them polled: there is room for no more. */
 static uint32_t fill_ledger(void)
 {
@@ -140,13 +155,29 @@ int main(void)
 
     hit_word(FILZ_HEADER_P, 7);                         /* at most n - 1, which is 4 */
     hit_word(FILZ_HEADER_P, 4);                         /* a fourth poll, whose ordinal nobody holds */
+    hit_word(in_record(0, FILZ_RECORD_MARK), 0);        /* the genesis is accepted */
     hit_word(in_record(1, FILZ_RECORD_NAME + 3), 3);    /* a name that 3 has too */
+    hit_word(in_record(2, FILZ_RECORD_MARK), 2);        /* a mark is 0 or 1 */
     hit_word(in_record(3, FILZ_RECORD_SLOT), 265);      /* no slot */
     hit_word(in_record(3, FILZ_RECORD_SLOT), 1);        /* a slot whose entry says that it has no booking */
     hit_word(in_record(4, FILZ_RECORD_STATE), 1);       /* one chit is left, and the genesis has confidence 2 */
     hit_word(in_record(5, FILZ_RECORD_CONFIDENCE), 16); /* past the bookings */
     hit_word(in_slot(7, FILZ_SLOT_COUNTER), 4);         /* above the number of chits */
     hit_word(in_slot(7, FILZ_SLOT_COUNTER), 2);         /* which is 2, so this breaks no rule */
+    printf("not earned, ");
+    hit_word(in_record(1, FILZ_RECORD_MARK), 1); /* the only mark in slot 7, so this breaks none either */
+
+    if (make_late_rival() != FILZ_TAKEN) {
+        printf("the ledger could not be made\n");
+        return 1;
+    }
+    memcpy(hit, good, sizeof hit);
+    printf("late rival, no word hit:");
+    answers();
+    printf("late rival, ");
+    hit_word(in_record(3, FILZ_RECORD_MARK), 1); /* two marks in slot 7: the higher is named */
+    printf("late rival, ");
+    hit_word(in_record(1, FILZ_RECORD_MARK), 0); /* a slot without a mark breaks no rule */
 
     if (fill_ledger() != FILZ_TAKEN) {
         printf("the ledger could not be filled\n");

@@ -1,6 +1,6 @@
 /*
  * Two small ledgers, from opening to acceptance: five bookings of which two compete for slot 7, then one booking that is
- * accepted. Prints what example.txt holds.
+ * accepted, and stays so when a rival comes. Prints what example.txt holds.
  */
 #include "filzhammer.h"
 
@@ -108,5 +108,11 @@ int main(void)
     show("opened anew, 1 won", 2);
     poll_one(2, FILZ_YES);
     show("2 won, which rests on 1", 2);
+
+    /* An acceptance stays, whoever comes for the slot and wins a poll. */
+    book_on_one(3, 7, 0);
+    show("3 came for the slot of 1", 3);
+    poll_one(3, FILZ_YES);
+    show("3 won its poll", 3);
     return 0;
 }

@@ -1,6 +1,7 @@
 /*
  * A day handed over: one station writes its ledger as a day file, and a neighbour reads it and goes on. Then the same file with
- * a byte changed, too short and too long: which are good, and that the others change nothing. Prints what handover.txt holds.
+ * a byte changed, too short and too long: which are good, and that the others change nothing. Last a day of which every word
+ * comes back but the marks, because a rival was booked after an acceptance. Prints what handover.txt holds.
  */
 #include "filzhammer.h"
 
@@ -149,6 +150,70 @@ static void change_length(void)
     printf("the same words: %s\n", memcmp(ours, theirs, sizeof ours) == 0 ? "yes" : "no");
 }
 
+static void book_on_one(uint16_t *ws, uint64_t name, uint16_t slot, uint64_t parent)
+{
+    int64_t value;
+    taken(filz_book(ws, FILZ_WORDS, name, slot, &parent, 1, &value));
+}
+
+static void poll_one(uint16_t *ws, uint64_t name)
+{
+    const uint8_t yes[1] = {FILZ_YES};
+    int64_t value;
+    taken(filz_poll(ws, FILZ_WORDS, name, yes, 1, &value));
+}
+
+static void show_accepted(const char *where, const uint16_t *ws, uint64_t last)
+{
+    printf("accepted %s:", where);
+    for (uint64_t name = 0; name <= last; name++) {
+        int64_t value;
+        taken(filz_accepted(ws, FILZ_WORDS, name, &value));
+        if (value == 1)
+            printf(" %" PRIu64, name);
+    }
+    printf("\n");
+}
+
+/* Is this the place of a mark? */
+static int is_mark(size_t place)
+{
+    return place >= FILZ_RECORDS_START && place < FILZ_SLOTS_START
+        && (place - FILZ_RECORDS_START) % FILZ_RECORD_WORDS == FILZ_RECORD_MARK;
+}
+
+/* 1 is accepted before 3 comes for its slot. Read from the file, where bookings stand before polls, it has the rival at once. */
+static void late_rival(void)
+{
+    size_t length, marks = 0, others = 0;
+    int64_t value;
+    taken(filz_open(ours, FILZ_WORDS, 1, 1, 1, 2, &value));
+    book_on_one(ours, 1, 7, 0);
+    book_on_one(ours, 2, 8, 1);
+    poll_one(ours, 1);
+    poll_one(ours, 2);
+    show_accepted("before the rival", ours, 2);
+    book_on_one(ours, 3, 7, 0);
+    book_on_one(ours, 4, 11, 3);
+    book_on_one(ours, 5, 12, 3);
+    book_on_one(ours, 6, 13, 3);
+    for (uint64_t name = 3; name <= 6; name++)
+        poll_one(ours, name);
+    show_accepted("with us", ours, 6);
+    length = write_day(ours);
+    printf("a late rival: %zu bytes, read with %" PRIu32 "\n", length, read_day(file, length));
+    show_accepted("with them", theirs, 6);
+    for (size_t place = 0; place < FILZ_WORDS; place++) {
+        if (ours[place] == theirs[place])
+            continue;
+        if (is_mark(place))
+            marks++;
+        else
+            others++;
+    }
+    printf("marks that differ: %zu, other words: %zu\n", marks, others);
+}
+
 int main(void)
 {
     size_t length;
@@ -159,5 +224,6 @@ int main(void)
         return 1;
     change_bytes();
     change_length();
+    late_rival();
     return 0;
 }

@@ -1,11 +1,12 @@
 /*
  * Where each word stands: after the run below, after its day file was written, after refused calls and after that file was read
- * into other words, every word of the workspace is the one worked out by hand, at the place that the header names. Prints
- * nothing and ends with 0 if that is so.
+ * into other words, every word of the workspace is the one worked out by hand, at the place that the header names; and so it is
+ * after a second run, in which a booking is accepted. Prints nothing and ends with 0 if that is so.
  */
 #include "filzhammer.h"
 
 #include <stdio.h>
+#include <string.h>
 
 /* The words that the calls write, and those expected. */
 static uint16_t ws[FILZ_WORDS];
@@ -27,7 +28,7 @@ static void expect_header(uint16_t n, uint16_t k, uint16_t a, uint16_t beta1, ui
 
 /* A booking whose name fits one word, with at most two parents. */
 static void expect_record(size_t number, uint16_t name, uint16_t slot, uint16_t first, uint16_t second, uint16_t state,
-                          uint16_t confidence, uint16_t ordinal)
+                          uint16_t confidence, uint16_t ordinal, uint16_t mark)
 {
     uint16_t *record = expected + FILZ_RECORDS_START + FILZ_RECORD_WORDS * number;
     record[FILZ_RECORD_NAME + 3] = name;
@@ -39,6 +40,7 @@ static void expect_record(size_t number, uint16_t name, uint16_t slot, uint16_t 
     record[FILZ_RECORD_STATE] = state;
     record[FILZ_RECORD_CONFIDENCE] = confidence;
     record[FILZ_RECORD_ORDINAL] = ordinal;
+    record[FILZ_RECORD_MARK] = mark;
 }
 
 static void expect_entry(size_t slot, uint16_t preferred, uint16_t last, uint16_t counter, uint16_t bookings)
@@ -48,6 +50,12 @@ static void expect_entry(size_t slot, uint16_t preferred, uint16_t last, uint16_
     entry[FILZ_SLOT_LAST] = last;
     entry[FILZ_SLOT_COUNTER] = counter;
     entry[FILZ_SLOT_BOOKINGS] = bookings;
+}
+
+static void expect_no_bookings(void)
+{
+    for (size_t slot = 0; slot < FILZ_SLOTS; slot++)
+        expect_entry(slot, FILZ_NONE, FILZ_NONE, 0, 0);
 }
 
 /* One opening, four bookings and four polls: the sum of their numbers, which is 0 if all are taken. */
@@ -67,6 +75,51 @@ static uint32_t run(void)
     sum += filz_poll(ws, FILZ_WORDS, 4, all, 3, &value);
     sum += filz_poll(ws, FILZ_WORDS, 1, most, 3, &value);
     return sum;
+}
+
+/* The words of that run. */
+static void expect_run(void)
+{
+    expect_header(5, 3, 2, 1, 2, 4);
+    expect_record(0, 0, 0, FILZ_NONE, FILZ_NONE, 1, 3, 0, 1);
+    expect_record(1, 1, 7, 0, FILZ_NONE, 2, 2, 4, 0);
+    expect_record(2, 2, 7, 0, FILZ_NONE, 2, 2, 1, 0);
+    expect_record(3, 3, 9, 1, FILZ_NONE, 1, 0, 2, 0);
+    expect_record(4, 4, 10, 1, 2, 2, 1, 3, 0);
+    expect_no_bookings();
+    expect_entry(0, 0, 0, 3, 1);
+    expect_entry(7, 2, 1, 0, 2);
+    expect_entry(9, 3, 3, 0, 1);
+    expect_entry(10, 4, 4, 1, 1);
+}
+
+/* One opening, two bookings, a poll of each, which accepts the first, and a rival for it: the sum of their numbers. */
+static uint32_t run_accepted(void)
+{
+    const uint64_t genesis[1] = {0}, one[1] = {1};
+    const uint8_t yes[1] = {FILZ_YES};
+    int64_t value;
+    uint32_t sum = filz_open(ws, FILZ_WORDS, 1, 1, 1, 2, &value);
+    sum += filz_book(ws, FILZ_WORDS, 1, 7, genesis, 1, &value);
+    sum += filz_book(ws, FILZ_WORDS, 2, 255, one, 1, &value);
+    sum += filz_poll(ws, FILZ_WORDS, 1, yes, 1, &value);
+    sum += filz_poll(ws, FILZ_WORDS, 2, yes, 1, &value);
+    sum += filz_book(ws, FILZ_WORDS, 3, 7, genesis, 1, &value);
+    return sum;
+}
+
+static void expect_accepted(void)
+{
+    memset(expected, 0, sizeof expected);
+    expect_header(4, 1, 1, 1, 2, 2);
+    expect_record(0, 0, 0, FILZ_NONE, FILZ_NONE, 1, 2, 0, 1);
+    expect_record(1, 1, 7, 0, FILZ_NONE, 2, 2, 1, 1);
+    expect_record(2, 2, 255, 1, FILZ_NONE, 2, 1, 2, 0);
+    expect_record(3, 3, 7, 0, FILZ_NONE, 0, 0, 0, 0);
+    expect_no_bookings();
+    expect_entry(0, 0, 0, 2, 1);
+    expect_entry(7, 1, 1, 2, 2);
+    expect_entry(255, 2, 2, 1, 1);
 }
 
 /* The day file, written: 0 if that is taken, with its bytes. */
@@ -114,19 +167,7 @@ static int refused(void)
 
 int main(void)
 {
-    expect_header(5, 3, 2, 1, 2, 4);
-    expect_record(0, 0, 0, FILZ_NONE, FILZ_NONE, 1, 3, 0);
-    expect_record(1, 1, 7, 0, FILZ_NONE, 2, 2, 4);
-    expect_record(2, 2, 7, 0, FILZ_NONE, 2, 2, 1);
-    expect_record(3, 3, 9, 1, FILZ_NONE, 1, 0, 2);
-    expect_record(4, 4, 10, 1, 2, 2, 1, 3);
-    for (size_t slot = 0; slot < FILZ_SLOTS; slot++)
-        expect_entry(slot, FILZ_NONE, FILZ_NONE, 0, 0);
-    expect_entry(0, 0, 0, 3, 1);
-    expect_entry(7, 2, 1, 0, 2);
-    expect_entry(9, 3, 3, 0, 1);
-    expect_entry(10, 4, 4, 1, 1);
-
+    expect_run();
     if (run() != FILZ_TAKEN) {
         fprintf(stderr, "a call was refused\n");
         return 1;
@@ -143,6 +184,14 @@ int main(void)
         return 1;
     if (read_again() != 0) {
         fprintf(stderr, "the day file was not read\n");
+        return 1;
+    }
+    if (!is_expected())
+        return 1;
+
+    expect_accepted();
+    if (run_accepted() != FILZ_TAKEN) {
+        fprintf(stderr, "a call of the second run was refused\n");
         return 1;
     }
     return is_expected() ? 0 : 1;

@@ -17,6 +17,8 @@
 //! poll(&mut ledger, 2, &[YES])?; // which also speaks for 1
 //! assert_eq!(accepted(&ledger, 1), Ok(1));
 //! assert_eq!(query(&ledger, 3), Err(Refusal::UnknownName));
+//! book(&mut ledger, 3, 7, &[0])?; // a rival that comes too late
+//! assert_eq!(accepted(&ledger, 1), Ok(1));
 //! # Ok::<(), Refusal>(())
 //! ```
 //!
@@ -31,7 +33,8 @@
 //! 2. **Answers and words are those of the rules, to the last word.** The rules say what an ancestry is (the booking and
 //!    everything reached through parents, each once), when a poll succeeds and what it writes, what a query answers,
 //!    when a booking is accepted, and each byte of a day file. For the same words and arguments there is one possible outcome, and it is this one. Of the
-//!    bookings of a slot never more than one is accepted at a time.
+//!    bookings of a slot never more than one is accepted at a time, and who is accepted stays so until the next taken opening or
+//!    reading of a day file.
 //! 3. **Confidence is earned.** Over every run since the last taken opening or reading of a day file, whatever calls came in
 //!    whatever order: a booking's confidence is the number of successful polls of bookings that have it in their ancestry, those
 //!    of the file among them; all confidences together are the sum of those ancestries' sizes; and no booking has more
@@ -48,6 +51,9 @@
 //! [`DamagedSlot`](Refusal::DamagedSlot) that only slot entries do. The last two carry a row: the lowest record's number, or the
 //! lowest slot, that breaks a rule. That row doesn't fit the others; the word that was hit may stand elsewhere.
 //!
+//! The header has 8 words, each of the 512 records 13 and each of the 256 slot entries 4. The last word of a record is its mark,
+//! 1 if the booking is accepted.
+//!
 //! ```
 //! use filzhammer::{book, open, poll, query, Refusal, Setting, WORDS, YES};
 //!
@@ -59,16 +65,20 @@
 //! poll(&mut ledger, 2, &[YES])?; // the one chit, so 0, 1 and 2 have confidence 1
 //! let good = ledger;
 //!
-//! ledger[8 + 12 * 2 + 5] = 2; // booking 2 would rest on itself
+//! ledger[8 + 13 * 2 + 5] = 2; // booking 2 would rest on itself
 //! assert_eq!(query(&ledger, 1), Err(Refusal::DamagedRecord(2)));
 //! assert_eq!(query(&ledger, 1).unwrap_err().row(), Some(2));
 //!
 //! ledger = good;
-//! ledger[8 + 12 * 2 + 9] = 1; // no chit is left, so no confidence may exceed 0: 0, 1 and 2 break it
+//! ledger[8 + 13 * 2 + 9] = 1; // no chit is left, so no confidence may exceed 0: 0, 1 and 2 break it
 //! assert_eq!(query(&ledger, 1), Err(Refusal::DamagedRecord(0)));
 //!
 //! ledger = good;
-//! ledger[6152 + 4 * 7 + 2] = 4; // the counter of slot 7, above the number of chits
+//! ledger[8 + 13 + 12] = 2; // the mark of booking 1, which is 0 or 1
+//! assert_eq!(query(&ledger, 1), Err(Refusal::DamagedRecord(1)));
+//!
+//! ledger = good;
+//! ledger[6664 + 4 * 7 + 2] = 4; // the counter of slot 7, above the number of chits
 //! assert_eq!(query(&ledger, 1), Err(Refusal::DamagedSlot(7)));
 //!
 //! ledger = good;
@@ -116,7 +126,8 @@
 //! ```
 //!
 //! Confidences, preferences and single votes are not in it: they follow from the bookings and the outcomes, or no longer
-//! matter. `docs/DAYFILE.md` of the repository explains a file byte by byte.
+//! matter. Who is accepted isn't in it either, and may come out otherwise where the file is read. `docs/DAYFILE.md` of the
+//! repository explains a file byte by byte.
 //!
 //! [`read_first`] is the way back: the neighbour's words become the ledger that the file tells of, and the day goes on there.
 //!
@@ -141,6 +152,29 @@
 //! assert_eq!(confidence(&theirs, 1), Ok(2));
 //! # Ok::<(), Refusal>(())
 //! ```
+//!
+//! A file has all bookings before all polls, and who is accepted is found out by the polls in that order. So a booking that was
+//! accepted before its rival came has the rival from the start, and may not be accepted at the neighbour's:
+//!
+//! ```
+//! use filzhammer::{accepted, book, open, poll, read_first, write_first, Refusal, Setting, FILE_MOST, WORDS, YES};
+//!
+//! let mut ours = [0u16; WORDS];
+//! open(&mut ours, Setting { k: 1, a: 1, beta1: 1, beta2: 2 })?;
+//! book(&mut ours, 1, 7, &[0])?;
+//! book(&mut ours, 2, 8, &[1])?;
+//! poll(&mut ours, 1, &[YES])?;
+//! poll(&mut ours, 2, &[YES])?; // 1 is alone in its slot, and its counter is above beta1
+//! book(&mut ours, 3, 7, &[0])?; // no longer
+//! assert_eq!(accepted(&ours, 1), Ok(1));
+//!
+//! let mut file = [0u8; FILE_MOST];
+//! let length = write_first(&ours, &mut file)?;
+//! let mut theirs = [0u16; WORDS];
+//! read_first(&mut theirs, &file[..length])?;
+//! assert_eq!(accepted(&theirs, 1), Ok(0)); // not alone, and the counter is not above beta2
+//! # Ok::<(), Refusal>(())
+//! ```
 #![no_std]
 #![warn(missing_docs)]
 
@@ -149,8 +183,8 @@ mod refusal;
 
 pub use refusal::Refusal;
 
-/// How many words a workspace has.
-pub const WORDS: usize = 7176;
+/// How many words a workspace has: 8 for the header, 13 for each of 512 records, 4 for each of 256 slots.
+pub const WORDS: usize = 7688;
 
 /// How many bookings a ledger holds, with the genesis.
 pub const BOOKINGS: usize = 512;
@@ -180,7 +214,8 @@ pub struct Setting {
     pub a: u16,
     /// A booking that is alone in its slot and rests on accepted parents is accepted when the slot's counter is above this.
     pub beta1: u16,
-    /// Any booking that is preferred and last in its slot is accepted when the slot's counter is above this.
+    /// Any booking that is preferred and last in its slot is accepted when the slot's counter is above this and no rival is
+    /// accepted.
     pub beta2: u16,
 }
 
@@ -203,7 +238,7 @@ pub fn open(ws: &mut [u16], setting: Setting) -> Result<(), Refusal> {
 }
 
 /// Books `name` for `slot` on one to four parents, given by their names. It waits for its poll, with confidence 0, and is
-/// preferred if the slot was empty.
+/// preferred if the slot was empty. No booking makes another accepted, or takes that away.
 ///
 /// Refuses [`WrongLength`](Refusal::WrongLength), [`DamagedHeader`](Refusal::DamagedHeader),
 /// [`DamagedRecord`](Refusal::DamagedRecord), [`DamagedSlot`](Refusal::DamagedSlot),
@@ -216,7 +251,8 @@ pub fn book(ws: &mut [u16], name: u64, slot: u16, parents: &[u64]) -> Result<(),
 /// Enters the votes of a completed poll of a waiting booking, [`YES`], [`NO`] or [`SILENT`] for each station asked.
 ///
 /// With at least `a` yes votes the whole ancestry gains one confidence each, and those that are then strictly ahead of their
-/// slot's preferred booking take its place. With fewer the booking only counts as polled.
+/// slot's preferred booking take its place. With fewer the booking only counts as polled. Either way, all bookings that then
+/// meet the rule of [`accepted`] are.
 ///
 /// Refuses [`WrongLength`](Refusal::WrongLength), [`DamagedHeader`](Refusal::DamagedHeader),
 /// [`DamagedRecord`](Refusal::DamagedRecord), [`DamagedSlot`](Refusal::DamagedSlot),
@@ -237,8 +273,11 @@ pub fn query(ws: &[u16], name: u64) -> Result<i64, Refusal> {
 
 /// 1 if the booking is accepted, else 0.
 ///
-/// The genesis is. Another booking is if it is alone in its slot, its parents are accepted and the slot's counter is above
-/// `beta1`; or if it is both preferred and last in its slot and the counter is above `beta2`. Refuses as [`query`] does.
+/// The genesis is. After each taken poll, one that fails too, the bookings are looked at in the order of their numbers, and each
+/// that meets a rule becomes accepted if no other of its slot is: it is alone in its slot, its parents are accepted (perhaps
+/// just now) and the slot's counter is above `beta1`; or it is both preferred and last in its slot and the counter is above
+/// `beta2`. It stays accepted until the next taken [`open`] or [`read_first`], whoever comes for its slot. Refuses as [`query`]
+/// does.
 pub fn accepted(ws: &[u16], name: u64) -> Result<i64, Refusal> {
     face::accepted(ws, name)
 }
@@ -260,7 +299,7 @@ pub fn size(ws: &[u16], name: u64) -> Result<i64, Refusal> {
 }
 
 /// Writes the ledger's day file, in its first form, to the front of `out`, and gives its length, [`FILE_LEAST`] to
-/// [`FILE_MOST`]. The bytes past the file stay as they were; if it is refused, all do.
+/// [`FILE_MOST`]. The bytes past the file stay as they were; if it is refused, all do. Who is accepted is not in the file.
 ///
 /// Refuses [`WrongLength`](Refusal::WrongLength), [`DamagedHeader`](Refusal::DamagedHeader),
 /// [`DamagedRecord`](Refusal::DamagedRecord), [`DamagedSlot`](Refusal::DamagedSlot),
@@ -273,6 +312,10 @@ pub fn write_first(ws: &[u16], out: &mut [u8]) -> Result<usize, Refusal> {
 /// Reads a day file, in its first form, and makes the words the ledger that it tells of, whatever they held before: the one
 /// that an opening with its setting, its bookings in their order and then its polls with their outcomes make.
 /// [`write_first`] then gives the same bytes. If it is refused, every word stays.
+///
+/// Who is accepted comes of these calls too, with every booking made before the first poll: one that was accepted where the
+/// file was written may not be here, and a rival that came later may be in its stead. Every other word of a ledger that calls
+/// have made comes back.
 ///
 /// A file is good if [`write_first`] could have written it after calls that were taken. It begins with 4 and a good
 /// [`Setting`]. It has at most 511 bookings, each with a name that is not 0 and that no earlier one has, a slot from 1 to 255,

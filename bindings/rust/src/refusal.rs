@@ -36,9 +36,9 @@ pub enum Refusal {
     BadVote,
     /// The header is right and a record breaks a rule: the number of the lowest such record.
     ///
-    /// Of the records that share a name, or an ordinal above 0, all but the lowest break a rule. Records from `n` on, the
-    /// number of bookings, have to be all zero. An ordinal that no record holds is charged to number `n`: 512, which no
-    /// record has, can only be that, in a full ledger.
+    /// Of the records that share a name, or an ordinal above 0, or that are marked in one slot, all but the lowest break a rule.
+    /// A mark is 0 or 1, and the genesis has 1. Records from `n` on, the number of bookings, have to be all zero. An ordinal
+    /// that no record holds is charged to number `n`: 512, which no record has, can only be that, in a full ledger.
     DamagedRecord(u16),
     /// Header and records are right and a slot's entry breaks a rule: the lowest such slot, 0 to 255.
     DamagedSlot(u16),

@@ -11,20 +11,20 @@ const NONE: u16 = 65535;
 
 /// Five bookings, of which 1 waits, 2 and 4 have a chit, and 3 lost its poll: n is 5, p is 3, and there are 2 chits.
 ///
-/// | number | at | name | slot | parents | state | confidence | ordinal |
-/// |---|---|---|---|---|---|---|---|
-/// | 0 | 8 | 0 | 0 | none | 1 | 2 | 0 |
-/// | 1 | 20 | 1 | 7 | 0 | 0 | 1 | 0 |
-/// | 2 | 32 | 2 | 7 | 0 | 2 | 2 | 1 |
-/// | 3 | 44 | 3 | 9 | 1 | 1 | 0 | 2 |
-/// | 4 | 56 | 4 | 10 | 1, 2 | 2 | 1 | 3 |
+/// | number | at | name | slot | parents | state | confidence | ordinal | mark |
+/// |---|---|---|---|---|---|---|---|---|
+/// | 0 | 8 | 0 | 0 | none | 1 | 2 | 0 | 1 |
+/// | 1 | 21 | 1 | 7 | 0 | 0 | 1 | 0 | 0 |
+/// | 2 | 34 | 2 | 7 | 0 | 2 | 2 | 1 | 0 |
+/// | 3 | 47 | 3 | 9 | 1 | 1 | 0 | 2 | 0 |
+/// | 4 | 60 | 4 | 10 | 1, 2 | 2 | 1 | 3 | 0 |
 ///
 /// | slot | at | preferred | last | counter | bookings |
 /// |---|---|---|---|---|---|
-/// | 0 | 6152 | 0 | 0 | 2 | 1 |
-/// | 7 | 6180 | 2 | 2 | 0 | 2 |
-/// | 9 | 6188 | 3 | 3 | 0 | 1 |
-/// | 10 | 6192 | 4 | 4 | 1 | 1 |
+/// | 0 | 6664 | 0 | 0 | 2 | 1 |
+/// | 7 | 6692 | 2 | 2 | 0 | 2 |
+/// | 9 | 6700 | 3 | 3 | 0 | 1 |
+/// | 10 | 6704 | 4 | 4 | 1 | 1 |
 fn ledger() -> [u16; WORDS] {
     listed(3)
 }
@@ -50,36 +50,39 @@ const P: usize = 5;
 
 // Words of a record: where each stands.
 fn name(number: usize) -> usize {
-    8 + 12 * number + 3 // the lowest of the name's four words
+    8 + 13 * number + 3 // the lowest of the name's four words
 }
 fn slot(number: usize) -> usize {
-    8 + 12 * number + 4
+    8 + 13 * number + 4
 }
 fn parent(number: usize, place: usize) -> usize {
-    8 + 12 * number + 5 + place
+    8 + 13 * number + 5 + place
 }
 fn state(number: usize) -> usize {
-    8 + 12 * number + 9
+    8 + 13 * number + 9
 }
 fn held(number: usize) -> usize {
-    8 + 12 * number + 10 // the confidence
+    8 + 13 * number + 10 // the confidence
 }
 fn ordinal(number: usize) -> usize {
-    8 + 12 * number + 11
+    8 + 13 * number + 11
+}
+fn mark(number: usize) -> usize {
+    8 + 13 * number + 12
 }
 
 // Words of a slot entry.
 fn preferred(slot: usize) -> usize {
-    6152 + 4 * slot
+    6664 + 4 * slot
 }
 fn last(slot: usize) -> usize {
-    6152 + 4 * slot + 1
+    6664 + 4 * slot + 1
 }
 fn counter(slot: usize) -> usize {
-    6152 + 4 * slot + 2
+    6664 + 4 * slot + 2
 }
 fn bookings(slot: usize) -> usize {
-    6152 + 4 * slot + 3
+    6664 + 4 * slot + 3
 }
 
 /// The words with others in their place.
@@ -174,6 +177,9 @@ fn each_rule_of_the_genesis() {
     damaged(&[(ordinal(0), 4)], record(0));
     damaged(&[(held(0), 3)], record(0));
     sound(&[(held(0), 1)]);
+    damaged(&[(mark(0), 0)], record(0));
+    damaged(&[(mark(0), 2)], record(0));
+    damaged(&[(mark(0), NONE)], record(0));
 }
 
 #[test]
@@ -249,10 +255,65 @@ fn a_lost_chit_is_told_of_the_genesis() {
 }
 
 #[test]
+fn a_mark_is_0_or_1() {
+    for number in 1..5 {
+        for word in [2, 3, 256, NONE] {
+            damaged(&[(mark(number), word)], record(number as u16));
+        }
+        sound(&[(mark(number), 1)]); // waiting, with a chit, or lost: no rule ties a mark to these
+        let marked = hit(ledger(), &[(mark(number), 1)]);
+        assert_eq!(accepted(&marked, number as u64), Ok(1));
+    }
+    sound(&[(mark(1), 1), (mark(3), 1), (mark(4), 1)]); // each in a slot of its own
+}
+
+#[test]
+fn two_marks_in_a_slot_are_charged_to_the_higher() {
+    damaged(&[(mark(1), 1), (mark(2), 1)], record(2));
+    damaged(&[(mark(1), 2), (mark(2), 1)], record(1)); // which is no mark at all
+    damaged(&[(mark(1), 1), (mark(2), 2)], record(2));
+    // booking 3 in slot 7, where 1 and 2 are; then 9 is empty
+    let third = [
+        (slot(3), 7),
+        (bookings(7), 3),
+        (preferred(9), NONE),
+        (last(9), NONE),
+        (bookings(9), 0),
+    ];
+    let with = |marks: &[(usize, u16)]| [&third[..], marks].concat();
+    sound(&third);
+    sound(&with(&[(mark(3), 1)]));
+    damaged(&with(&[(mark(1), 1), (mark(3), 1)]), record(3));
+    damaged(&with(&[(mark(2), 1), (mark(3), 1)]), record(3));
+    let all = [(mark(1), 1), (mark(2), 1), (mark(3), 1)];
+    damaged(&with(&all), record(2)); // of three the second
+
+    // another slot for one of them, and the entries tell
+    damaged(&[(mark(1), 1), (mark(2), 1), (slot(2), 9)], entry(7));
+}
+
+#[test]
+fn marks_among_the_other_rules() {
+    damaged(&[(mark(3), 2), (held(1), 3)], record(1));
+    damaged(&[(mark(3), 2), (name(2), 1)], record(2));
+    damaged(&[(mark(3), 2), (name(4), 1)], record(3));
+    damaged(&[(mark(3), 2), (ordinal(4), 1)], record(3));
+    damaged(&[(mark(3), 2), (P, 4)], record(3));
+    damaged(&[(mark(3), 2), (mark(0), 0)], record(0));
+    damaged(&[(mark(1), 1), (mark(2), 1), (slot(1), 0)], record(1));
+    damaged(&[(mark(1), 1), (mark(2), 1), (slot(3), 0)], record(2));
+    damaged(&[(mark(1), 1), (mark(2), 1), (mark(5), 1)], record(2));
+    damaged(&[(mark(4), 1), (mark(5), 1)], record(5)); // past the bookings
+    damaged(&[(mark(511), 1)], record(511));
+    damaged(&[(mark(2), 2), (bookings(0), 2)], record(2));
+    damaged(&[(mark(2), 2), (7, 1)], Refusal::DamagedHeader);
+}
+
+#[test]
 fn records_from_n_on_are_zero() {
-    for place in 0..12 {
-        damaged(&[(8 + 12 * 5 + place, 1)], record(5));
-        damaged(&[(8 + 12 * 511 + place, NONE)], record(511));
+    for place in 0..13 {
+        damaged(&[(8 + 13 * 5 + place, 1)], record(5));
+        damaged(&[(8 + 13 * 511 + place, NONE)], record(511));
     }
     damaged(&[(name(511), 1), (state(64), 1)], record(64));
 }
@@ -276,6 +337,11 @@ fn a_missing_ordinal_of_a_full_ledger_is_charged_to_512() {
     all_refused(record(511), &mut hit(full(), &[(P, 2), (slot(511), 0)]));
     all_refused(Refusal::DamagedHeader, &mut hit(full(), &[(P, 512)]));
     all_refused(record(511), &mut hit(full(), &[(name(511), 510)]));
+    all_refused(record(512), &mut hit(full(), &[(P, 2), (mark(511), 1)]));
+    all_refused(record(511), &mut hit(full(), &[(P, 2), (mark(511), 2)]));
+    let all = [(mark(1), 1), (mark(510), 1), (mark(511), 1)];
+    all_refused(record(510), &mut hit(full(), &all));
+    all_refused(record(511), &mut hit(full(), &all[1..]));
     assert_eq!(size(&full(), 511), Ok(2));
 }
 
@@ -357,16 +423,17 @@ fn the_header_hides_records_and_records_hide_slots() {
 
 #[test]
 fn the_length_comes_first() {
-    for hits in [[(7, 1)], [(slot(3), 0)], [(bookings(7), 3)]] {
+    for hits in [[(7, 1)], [(slot(3), 0)], [(mark(0), 0)], [(bookings(7), 3)]] {
         let mut ws = hit(ledger(), &hits);
         all_refused(Refusal::WrongLength, &mut ws[..WORDS - 1]);
+        all_refused(Refusal::WrongLength, &mut ws[..7176]);
         all_refused(Refusal::WrongLength, &mut [ws.as_slice(), &[0]].concat());
     }
 }
 
 #[test]
 fn open_never_looks_at_the_words() {
-    for hits in [[(7, 1)], [(slot(3), 0)], [(bookings(7), 3)]] {
+    for hits in [[(7, 1)], [(slot(3), 0)], [(mark(0), 0)], [(bookings(7), 3)]] {
         let mut ws = hit(ledger(), &hits);
         refused(Refusal::BadSetting, &mut ws, |ws| {
             open(ws, Setting { k: 4, ..SETTING })
@@ -374,6 +441,7 @@ fn open_never_looks_at_the_words() {
         open(&mut ws, SETTING).unwrap();
         assert_eq!(size(&ws, 0), Ok(1));
         assert_eq!(size(&ws, 1), Err(Refusal::UnknownName));
+        assert_eq!(accepted(&ws, 0), Ok(1));
     }
 }
 

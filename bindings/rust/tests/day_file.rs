@@ -199,18 +199,58 @@ fn other_votes_and_another_order_give_the_same_file() {
 }
 
 #[test]
-fn confidences_and_slot_entries_are_not_in_the_file() {
+fn confidences_marks_and_slot_entries_are_not_in_the_file() {
     let mut ws = listed(4);
     for (place, word) in [
-        (8 + 12 + 10, 3),       // the confidence of booking 1, within the three chits
-        (6152 + 4 * 7, 1),      // the preferred booking of slot 7
-        (6152 + 4 * 7 + 1, 2),  // its last
-        (6152 + 4 * 10 + 2, 3), // the counter of slot 10
+        (8 + 13 + 10, 3),       // the confidence of booking 1, within the three chits
+        (8 + 13 + 12, 1),       // its mark
+        (6664 + 4 * 7, 1),      // the preferred booking of slot 7
+        (6664 + 4 * 7 + 1, 2),  // its last
+        (6664 + 4 * 10 + 2, 3), // the counter of slot 10
     ] {
         assert_ne!(ws[place], word);
         ws[place] = word;
     }
     writes(&mut ws, &LISTED);
+}
+
+/// 1 is accepted before its rival comes, or the rival is there from the start: the same file.
+#[test]
+fn who_is_accepted_is_not_in_the_file() {
+    let one_vote = Setting {
+        k: 1,
+        a: 1,
+        beta1: 1,
+        beta2: 2,
+    };
+    let file = [
+        &[0, 4, 0, 1, 0, 1, 0, 1, 0, 2][..],
+        &[0, 3],
+        &[0, 0, 0, 0, 0, 0, 0, 1, 0, 7, 0, 1, 0, 0],
+        &[0, 0, 0, 0, 0, 0, 0, 2, 0, 8, 0, 1, 0, 1],
+        &[0, 0, 0, 0, 0, 0, 0, 3, 0, 7, 0, 1, 0, 0],
+        &[0, 2],
+        &[0, 1, 0, 1],
+        &[0, 2, 0, 1],
+    ]
+    .concat();
+    let mut late = opened(one_vote);
+    book(&mut late, 1, 7, &[0]).unwrap();
+    book(&mut late, 2, 8, &[1]).unwrap();
+    poll(&mut late, 1, &[YES]).unwrap();
+    poll(&mut late, 2, &[YES]).unwrap();
+    book(&mut late, 3, 7, &[0]).unwrap();
+    assert_eq!(accepted(&late, 1), Ok(1));
+    writes(&mut late, &file);
+
+    let mut early = opened(one_vote);
+    book(&mut early, 1, 7, &[0]).unwrap();
+    book(&mut early, 2, 8, &[1]).unwrap();
+    book(&mut early, 3, 7, &[0]).unwrap();
+    poll(&mut early, 1, &[YES]).unwrap();
+    poll(&mut early, 2, &[YES]).unwrap();
+    assert_eq!(accepted(&early, 1), Ok(0)); // not alone, and counter 2 is not above beta2
+    writes(&mut early, &file);
 }
 
 // ---- 16, and what comes before it
@@ -231,14 +271,21 @@ fn every_shorter_buffer_is_refused() {
 /// Each is told in an empty buffer, in one too short for any file, and in one with room for every file: see `all_refused`.
 #[test]
 fn the_length_and_damage_come_first() {
-    for ws in [&mut listed(4)[..WORDS - 1], &mut [0; WORDS + 1], &mut []] {
+    for ws in [
+        &mut listed(4)[..WORDS - 1],
+        &mut listed(4)[..7176],
+        &mut [0; WORDS + 1],
+        &mut [],
+    ] {
         all_refused(Refusal::WrongLength, ws);
     }
     let mut ws = listed(4);
-    ws[6152 + 4 * 7 + 3] = 3; // slot 7 has two bookings
+    ws[6664 + 4 * 7 + 3] = 3; // slot 7 has two bookings
     all_refused(Refusal::DamagedSlot(7), &mut ws);
-    ws[8 + 12 * 3 + 4] = 0; // booking 3 in the slot of the genesis
+    ws[8 + 13 * 3 + 4] = 0; // booking 3 in the slot of the genesis
     all_refused(Refusal::DamagedRecord(3), &mut ws);
+    ws[8 + 13 * 2 + 12] = 2; // a mark is 0 or 1
+    all_refused(Refusal::DamagedRecord(2), &mut ws);
     ws[6] = 1; // a spare word of the header
     all_refused(Refusal::DamagedHeader, &mut ws);
     all_refused(Refusal::WrongLength, &mut ws[1..]);

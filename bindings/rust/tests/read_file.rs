@@ -150,19 +150,144 @@ fn the_longest_file() {
 
 /// What no poll led to is not in a file, and is made by the rules.
 #[test]
-fn confidences_and_slot_entries_are_made_again() {
+fn confidences_marks_and_slot_entries_are_made_again() {
     let mut ws = listed(4);
-    ws[8 + 12 + 10] = 3; // the confidence of booking 1
-    ws[6152 + 4 * 7] = 1; // the preferred booking of slot 7
+    ws[8 + 13 + 10] = 3; // the confidence of booking 1
+    ws[8 + 13 + 12] = 1; // its mark
+    ws[6664 + 4 * 7] = 1; // the preferred booking of slot 7
     let file = written(&ws);
     makes(&file, &listed(4));
+}
+
+// ---- marks
+
+fn mark(number: usize) -> usize {
+    8 + 13 * number + 12
+}
+
+/// One vote in a poll, with beta1 1 and beta2 2; six bookings, of which 1 and 3 compete for slot 7. So many of them come before
+/// the first poll, so many polls are taken, each with a yes, then the other bookings come, and then the polls up to the last.
+fn rivals(before: usize, between: u64, last: u64) -> [u16; WORDS] {
+    let setting = Setting {
+        k: 1,
+        a: 1,
+        beta1: 1,
+        beta2: 2,
+    };
+    let bookings = [
+        (1, 7, 0),
+        (2, 8, 1),
+        (3, 7, 0),
+        (4, 11, 3),
+        (5, 12, 3),
+        (6, 13, 3),
+    ];
+    let mut ws = [0; WORDS];
+    open(&mut ws, setting).unwrap();
+    for &(name, slot, parent) in &bookings[..before] {
+        book(&mut ws, name, slot, &[parent]).unwrap();
+    }
+    for name in 1..=between {
+        poll(&mut ws, name, &[YES]).unwrap();
+    }
+    for &(name, slot, parent) in &bookings[before..] {
+        book(&mut ws, name, slot, &[parent]).unwrap();
+    }
+    for name in between + 1..=last {
+        poll(&mut ws, name, &[YES]).unwrap();
+    }
+    ws
+}
+
+/// The names that are accepted.
+fn all_accepted(ws: &[u16]) -> Vec<u64> {
+    (0..=6)
+        .filter(|&name| accepted(ws, name).unwrap() == 1)
+        .collect()
+}
+
+/// With the rival there from the start, slot 7 has counters 1 and 2 for 1, which are not above beta2, and then 0 to 3 for 3,
+/// which is preferred from the third of its polls on.
+#[test]
+fn marks_are_those_of_all_bookings_and_then_all_polls() {
+    let early = rivals(6, 0, 6);
+    assert_eq!(all_accepted(&early), [0, 3]);
+    makes(&written(&early), &early);
+
+    let mut ws = [0; WORDS];
+    read_first(&mut ws, &written(&rivals(6, 0, 5))).unwrap();
+    assert_eq!(all_accepted(&ws), [0]);
+    poll(&mut ws, 6, &[YES]).unwrap();
+    assert_eq!(ws, early);
+}
+
+/// 1 is accepted by the third poll, with slot 7 at counter 3. The fourth makes its rival last, and 1 meets no rule any more.
+#[test]
+fn an_acceptance_on_the_way_stays() {
+    let mut ws = [0; WORDS];
+    let setting = Setting {
+        k: 1,
+        a: 1,
+        beta1: 1,
+        beta2: 2,
+    };
+    open(&mut ws, setting).unwrap();
+    for (name, slot, parent) in [(1, 7, 0), (2, 7, 0), (3, 8, 1), (4, 9, 1)] {
+        book(&mut ws, name, slot, &[parent]).unwrap();
+    }
+    for name in [1, 3, 4, 2] {
+        poll(&mut ws, name, &[YES]).unwrap();
+    }
+    assert_eq!(ws[6664 + 4 * 7..][..4], [1, 2, 0, 2]);
+    assert_eq!(ws[mark(1)], 1);
+    makes(&written(&ws), &ws);
+}
+
+/// 1 is accepted by the second poll, alone in its slot, and its rival comes after that. The file doesn't tell: every word comes
+/// back but the marks.
+#[test]
+fn an_acceptance_is_lost_to_a_late_rival() {
+    let late = rivals(2, 2, 2);
+    assert_eq!(all_accepted(&late), [0, 1]);
+    let mut expected = late;
+    expected[mark(1)] = 0;
+    makes(&written(&late), &expected);
+    assert_eq!(all_accepted(&expected), [0]);
+}
+
+/// And if the rival wins the polls that follow, the acceptance stands at the rival.
+#[test]
+fn an_acceptance_goes_to_a_late_rival() {
+    let late = rivals(2, 2, 6);
+    assert_eq!(all_accepted(&late), [0, 1]);
+    let mut expected = late;
+    expected[mark(1)] = 0;
+    expected[mark(3)] = 1;
+    makes(&written(&late), &expected);
+    assert_eq!(all_accepted(&expected), [0, 3]);
+    assert_eq!(expected, rivals(6, 0, 6));
+}
+
+#[test]
+fn a_refused_file_leaves_the_acceptances() {
+    let mut ws = rivals(2, 2, 6);
+    let file = written(&ws);
+    read_refused(Refusal::BadFile, &mut ws, &file[1..]);
+    assert_eq!(all_accepted(&ws), [0, 1]);
+    read_first(&mut ws, &file).unwrap();
+    assert_eq!(all_accepted(&ws), [0, 3]);
 }
 
 // ---- 1 comes first
 
 #[test]
 fn words_of_another_length() {
-    for ws in [&mut listed(4)[..WORDS - 1], &mut [0; WORDS + 1], &mut []] {
+    for ws in [
+        &mut listed(4)[..WORDS - 1],
+        &mut listed(4)[..7176],
+        &mut [0; WORDS + 1],
+        &mut [],
+    ] {
         read_refused(Refusal::WrongLength, ws, &example());
         read_refused(Refusal::WrongLength, ws, &[]);
         read_refused(Refusal::WrongLength, ws, &[0; 14]);

@@ -110,9 +110,18 @@ fn number_and_value_lead_back() {
 
 #[test]
 fn r1_wrong_length() {
+    assert_eq!(WORDS, 7688);
     let mut long = [ledger().as_slice(), &[0]].concat();
     let mut short = ledger()[..WORDS - 1].to_vec();
-    for ws in [&mut long, &mut short, &mut vec![]] {
+    let mut without_marks = ledger()[..7176].to_vec(); // as many words as there would be with 12 in a record
+    let mut one = vec![4];
+    for ws in [
+        &mut long,
+        &mut short,
+        &mut without_marks,
+        &mut one,
+        &mut vec![],
+    ] {
         refused(Refusal::WrongLength, ws, |ws| {
             open(ws, Setting { k: 0, ..SETTING })
         });

@@ -1,2 +1,3 @@
--- A name for the step of the search over parents; what acceptance is stands in the law.
+-- What the pass over the marks goes by: a step of the search over parents, and which slots have a mark. What is marked stands in the law.
 pub mod Steps
+pub mod SlotsNoted

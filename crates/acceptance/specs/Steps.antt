@@ -2,8 +2,8 @@
 use Prim.Native.Nat.{ℕ}
 use mathlib.Core.Bool.{Bool, not}
 use mathlib.Core.List.{List}
-use Rattle.rules.specs.Readings.{parentAccepted}
+use Rattle.rules.specs.Marks.{parentMarked}
 
--- place a of booking j holds a parent that has no mark in m
-abbrev pub unaccepted : List ℕ → List ℕ → ℕ → ℕ → Bool
-unaccepted w m j a = not (parentAccepted w m j a)
+-- place a of booking j holds a parent that is not marked
+abbrev pub unmarkedParent : List ℕ → ℕ → ℕ → Bool
+unmarkedParent w j a = not (parentMarked w j a)

@@ -1,53 +1,46 @@
-// Which bookings are accepted.
+// Who is marked as accepted after a poll. A bit for each slot that has a mark spares looking at the others of the slot.
 use booking_reads::booking;
 use rules::layout;
 ghost use mathlib.Core.Path.{_≡_};
 ghost use Prim.Native.Nat.{_<_, _≤_};
-ghost use lib.ListN.{length};
 ghost use Rattle.loops.specs.Search.{first};
-ghost use Rattle.loops.specs.Turns.{upTo};
-ghost use Rattle.rules.specs.Layout.{size, mostBookings, mostParents, bookings};
+ghost use Rattle.rules.specs.Layout.{mostParents, bookings};
 ghost use Rattle.rules.specs.Sound.{Ledger};
-ghost use Rattle.rules.specs.Readings.{parentsAccepted, firstArm, secondArm, isAccepted, acceptOne, acceptedBelow, acceptedOf};
-ghost use Rattle.bits.specs.Members.{membersIn};
-ghost use Rattle.acceptance.specs.Steps.{unaccepted};
+ghost use Rattle.rules.specs.Marks.{firstArm, secondArm, meetsRule, markedBelow, marked};
+ghost use Rattle.acceptance.specs.Steps.{unmarkedParent};
+ghost use Rattle.acceptance.specs.SlotsNoted.{SlotsNoted, MarkedOne};
 
-// Whether place a of booking j holds a parent that is not accepted.
-fn is_unaccepted(w: &[u16], m: &[u64], j: usize, a: usize) -> bool
-    requires { ⌜ (length (now w) ≡ size) × (j < mostBookings) × (a < mostParents) ⌝ }
-    ensures { λ r. ⌜ r ≡ unaccepted (now (w .entry)) (membersIn (now (m .entry))) j a ⌝ }
+// Whether place a of booking j holds a parent that is not marked.
+fn is_unmarked(w: &[u16], j: usize, a: usize) -> bool
+    requires { ⌜ Ledger (now w) × (j < bookings (now w)) × (a < mostParents) ⌝ }
+    ensures { λ r. ⌜ r ≡ unmarkedParent (now (w .entry)) j a ⌝ }
 {
     let p = words::parent(w, j, a);
-    !((p == words::wide(layout::NONE)) | bits::is_set(m, p))
+    if p == words::wide(layout::NONE) {
+        return false;
+    }
+    !booking::is_accepted(w, p)
 }
 
 // The first such place, or how many places there are.
-fn first_unaccepted(w: &[u16], m: &[u64], j: usize) -> usize
-    requires { ⌜ (length (now w) ≡ size) × (j < mostBookings) ⌝ }
-    ensures { λ r. ⌜ r ≡ first (unaccepted (now (w .entry)) (membersIn (now (m .entry))) j) mostParents ⌝ }
+fn first_unmarked(w: &[u16], j: usize) -> usize
+    requires { ⌜ Ledger (now w) × (j < bookings (now w)) ⌝ }
+    ensures { λ r. ⌜ r ≡ first (unmarkedParent (now (w .entry)) j) mostParents ⌝ }
 {
     for a in 0..layout::MOST_PARENTS {
-        if is_unaccepted(w, m, j, a) {
+        if is_unmarked(w, j, a) {
             return a;
         }
     }
     layout::MOST_PARENTS
 }
 
-// Whether all parents of booking j are accepted; m has a mark for each accepted booking below j.
-fn parents_accepted(w: &[u16], m: &[u64], j: usize) -> bool
-    requires { ⌜ (length (now w) ≡ size) × (j < mostBookings) ⌝ }
-    ensures { λ r. ⌜ r ≡ parentsAccepted (now (w .entry)) (membersIn (now (m .entry))) j ⌝ }
-{
-    first_unaccepted(w, m, j) == layout::MOST_PARENTS
-}
-
-// All parents are accepted, the slot has one booking, and its counter is above beta1.
-fn first_arm(w: &[u16], m: &[u64], j: usize) -> bool
+// All parents are marked, the slot has one booking, and its counter is above beta1.
+fn first_arm(w: &[u16], j: usize) -> bool
     requires { ⌜ Ledger (now w) × (j < bookings (now w)) ⌝ }
-    ensures { λ r. ⌜ r ≡ firstArm (now (w .entry)) (membersIn (now (m .entry))) j ⌝ }
+    ensures { λ r. ⌜ r ≡ firstArm (now (w .entry)) j ⌝ }
 {
-    parents_accepted(w, m, j)
+    (first_unmarked(w, j) == layout::MOST_PARENTS)
         & (booking::entry_of(w, j, layout::HELD) == 1)
         & (words::header(w, layout::BETA1) < booking::entry_of(w, j, layout::COUNTER))
 }
@@ -62,50 +55,49 @@ fn second_arm(w: &[u16], j: usize) -> bool
         & (words::header(w, layout::BETA2) < booking::entry_of(w, j, layout::COUNTER))
 }
 
-// The genesis, or by one of the arms.
-fn is_accepted(w: &[u16], m: &[u64], j: usize) -> bool
+// The genesis, or by one of the arms. A counter that is not above beta1 is enough for neither, and most are not.
+fn meets_rule(w: &[u16], j: usize) -> bool
     requires { ⌜ Ledger (now w) × (j < bookings (now w)) ⌝ }
-    ensures { λ r. ⌜ r ≡ isAccepted (now (w .entry)) (membersIn (now (m .entry))) j ⌝ }
+    ensures { λ r. ⌜ r ≡ meetsRule (now (w .entry)) j ⌝ }
 {
-    (j == 0) | first_arm(w, m, j) | second_arm(w, j)
+    if booking::entry_of(w, j, layout::COUNTER) <= words::header(w, layout::BETA1) {
+        return j == 0;
+    }
+    (j == 0) | first_arm(w, j) | second_arm(w, j)
 }
 
-// The members with j marked too, if it is accepted.
-fn accept_one(w: &[u16], m: &mut [u64], j: usize)
-    requires { ⌜ Ledger (now w) × (j < bookings (now w)) ⌝ }
-    ensures { λ _. ⌜ membersIn (now (m .exit)) ≡ acceptOne (now (w .entry)) j (membersIn (now (m .entry))) ⌝ }
+// Marks j if its slot has no mark and it meets the rule. Where its slot has one, either another's stands in the way or its own is set already.
+fn mark_one(w: &mut [u16], noted: &mut [u64], j: usize)
+    requires { ⌜ Ledger (now w) × (j < bookings (now w)) × SlotsNoted (now w) (now noted) ⌝ }
+    ensures { λ _. ⌜ MarkedOne (now (w .entry)) j (now (w .exit)) (now (noted .exit)) ⌝ }
 {
-    if is_accepted(w, m, j) {
-        bits::set_bit(m, j);
+    let s = booking::slot_of(w, j);
+    if bits::is_set(noted, s) {
+        return;
+    }
+    if meets_rule(w, j) {
+        words::set_field(w, j, layout::MARK, 1);
+        bits::set_bit(noted, s);
     }
 }
 
-// Members the accepted bookings below n, in rising number: parents are lower.
-fn accept_below(w: &[u16], m: &mut [u64], n: usize)
-    requires { ⌜ Ledger (now w) × (n ≤ bookings (now w)) ⌝ }
-    ensures { λ _. ⌜ membersIn (now (m .exit)) ≡ upTo (acceptOne (now (w .entry))) n (membersIn (now (m .entry))) ⌝ }
+// The bookings below n in rising number, so that a mark of this pass counts for those that rest on it.
+fn mark_below(w: &mut [u16], noted: &mut [u64], n: usize)
+    requires { ⌜ Ledger (now w) × (n ≤ bookings (now w)) × SlotsNoted (now w) (now noted) ⌝ }
+    ensures { λ _. ⌜ now (w .exit) ≡ markedBelow n (now (w .entry)) ⌝ }
 {
     for j in 0..n {
-        accept_one(w, m, j);
+        mark_one(w, noted, j);
     }
 }
 
-// The members of the accepted bookings below n.
-pub fn accepted_below(w: &[u16], n: usize) -> [u64; bits::BIT_WORDS]
-    requires { ⌜ Ledger (now w) × (n ≤ bookings (now w)) ⌝ }
-    ensures { λ r. ⌜ membersIn r ≡ acceptedBelow (now (w .entry)) n ⌝ }
+// Marks every booking that is due, of the polled ancestry or not.
+pub fn mark_accepted(w: &mut [u16])
+    requires { ⌜ Ledger (now w) ⌝ }
+    ensures { λ _. ⌜ now (w .exit) ≡ marked (now (w .entry)) ⌝ }
 {
-    let mut m = [0u64; bits::BIT_WORDS];
-    accept_below(w, &mut m, n);
-    m
-}
-
-// Whether booking i is accepted.
-pub fn accepted_of(w: &[u16], i: usize) -> bool
-    requires { ⌜ Ledger (now w) × (i < bookings (now w)) ⌝ }
-    ensures { λ r. ⌜ r ≡ acceptedOf (now (w .entry)) i ⌝ }
-{
-    let mut m = [0u64; bits::BIT_WORDS];
-    accept_below(w, &mut m, i + 1);
-    bits::is_set(&m, i)
+    let n = booking::how_many(w);
+    let mut noted = [0u64; bits::BIT_WORDS];
+    marked_slots::note_marks(w, n, &mut noted);
+    mark_below(w, &mut noted, n);
 }

@@ -8,7 +8,10 @@ ghost use Rattle.rules.specs.Layout.{size, mostBookings, slots, recordWords, no
 ghost use Rattle.rules.specs.Sound.{Ledger};
 ghost use Rattle.rules.specs.Book.{newRecord, entered, bookedWith};
 
-// The record of a booking: the name's four parts, highest first, the slot, the parents, state 0, confidence 0 and no ordinal.
+// Nobody is accepted before a poll.
+const UNMARKED: u16 = 0;
+
+// The record of a booking: the name's four parts, highest first, the slot, the parents, state 0, confidence 0, no ordinal and no mark.
 fn new_record(
     name: u64,
     slot: u16,
@@ -29,6 +32,7 @@ fn new_record(
         0,
         0,
         0,
+        UNMARKED,
     ]
 }
 

@@ -15,6 +15,7 @@ ghost use Rattle.rules.specs.Layout.{
 };
 ghost use Rattle.rules.specs.Sound.{Ledger};
 ghost use Rattle.rules.specs.Book.{lookUp};
+ghost use Rattle.rules.specs.Readings.{acceptedOf};
 
 // How many bookings the ledger has.
 pub fn how_many(w: &[u16]) -> usize
@@ -52,6 +53,14 @@ pub fn confidence_of(w: &[u16], i: usize) -> u16
     ensures { λ r. ⌜ r ≡ confidenceOf (now (w .entry)) i ⌝ }
 {
     words::field(w, i, layout::CONFIDENCE)
+}
+
+// Whether booking i is accepted: the mark, which polls set.
+pub fn is_accepted(w: &[u16], i: usize) -> bool
+    requires { ⌜ (length (now w) ≡ size) × (i < mostBookings) ⌝ }
+    ensures { λ r. ⌜ r ≡ acceptedOf (now (w .entry)) i ⌝ }
+{
+    words::field(w, i, layout::MARK) == 1
 }
 
 // Word f of the entry of booking j's slot.

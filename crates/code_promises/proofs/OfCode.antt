@@ -1,7 +1,8 @@
 -- What holds of the law's outcomes holds of every call that a contract allows, since it gives that outcome. Assumes nothing.
 use mathlib.Core.Path.{_≡_, refl, sym, ap, ap₂, subst, _∙_}
-use mathlib.Core.Bool.{true}
-use mathlib.Core.List.{List}
+use mathlib.Core.Bool.{Bool, true, false, true≢false, _&&_}
+use mathlib.Core.List.{List, [], _∷_}
+use mathlib.Core.Logic.{_≢_}
 use Prim.Native.Nat.{ℕ}
 use lib.IntN.{pos}
 use Rattle.terms.specs.declared.answer.Answer.{Answer}
@@ -13,14 +14,15 @@ use Rattle.rules.specs.Calls.{acceptedCall}
 use Rattle.rule_laws.proofs.Calls.{number-refused}
 use Rattle.day_file.specs.Bytes.{dayFile}
 use Rattle.day_file.specs.Calls.{writeFirstCall, readFirstCall}
-use Rattle.promises.specs.Run.{Call, Open, Book, Poll, Ask, WriteFirst, ReadFirst, outcomeOf, lentAfter, History, fresh, historyAfter}
-use Rattle.promises.specs.Acceptance.{AcceptedOnce, AcceptedCallOnce}
+use Rattle.promises.specs.Run.{Call, Open, Book, Poll, Ask, WriteFirst, ReadFirst, outcomeOf, opens, lentAfter, History, fresh, historyAfter, run}
+use Rattle.promises.specs.Acceptance.{AcceptedOnce, AcceptedCallOnce, renews, NoneRenews, AcceptedCallStays}
 use Rattle.promises.specs.Damage.{NamesDamage}
 use Rattle.promises.specs.Refusals.{RefusedKeeps}
 use Rattle.promises.specs.DayFile.{Written, FileWritten}
 use Rattle.promises.specs.ReadFile.{FileOfRead}
 use Rattle.promises.specs.Soundness.{OpenedSound}
 use Rattle.promises.proofs.Acceptance.{accepted-once, accepted-call-once}
+use Rattle.promises.proofs.Marks.{accepted-call-stays}
 use Rattle.promises.proofs.Refusals.{refused-keeps, refused-listed}
 use Rattle.promises.proofs.Damage.{damage-named}
 use Rattle.promises.proofs.DayFile.{file-written}
@@ -43,6 +45,10 @@ use Rattle.code_promises.specs.OfCode.{
   CodeReads,
   Accepts,
   CodeAcceptsOnce,
+  Followed,
+  nothing,
+  another,
+  CodeAcceptsStays,
   Ran,
   opened,
   called,
@@ -115,6 +121,10 @@ zero-taken : (r : Answer) → number r ≡ 0 → isTaken r ≡ true
 zero-taken (Taken v) e = refl
 zero-taken (Refused r) e = absurd (number-refused r e)
 
+taken-zero : (r : Answer) → isTaken r ≡ true → number r ≡ 0
+taken-zero (Taken v) e = refl
+taken-zero (Refused r) e = absurd (true≢false (sym e))
+
 pub code-writes : CodeWrites function
 unfolding CodeWrites FileWritten outcomeOf lentAfter
 code-writes d buffer m asks taken =
@@ -157,6 +167,29 @@ answered-one w i a =
 pub code-accepts-once : CodeAcceptsOnce function
 unfolding CodeAcceptsOnce AcceptedCallOnce
 code-accepts-once w i j hi hj same a b = accepted-call-once w i j hi hj same (answered-one w i a) (answered-one w j b)
+
+-- a call that opens or reads and is refused makes no new ledger
+renewed : (d : Done) → Made function d → (opens (d .call) ≡ true → d .number ≢ 0) → renews (d .call) (d .before) ≡ false
+renewed d m refused = go (opens (d .call)) (isTaken (due d .answer)) refl refl
+  where
+    go : (o t : Bool) → opens (d .call) ≡ o → isTaken (due d .answer) ≡ t → (o && t) ≡ false
+    go true true o t = absurd (refused o (gave d m .told .numbered ∙ taken-zero (due d .answer) t))
+    go true false o t = refl
+    go false t o e = refl
+
+followed-one : {w u : List ℕ} (name : ℕ) → acceptedCall w name ≡ Taken (pos 1) → Followed function w u → acceptedCall u name ≡ Taken (pos 1)
+unfolding AcceptedCallStays NoneRenews run
+followed-one name e nothing = e
+followed-one name e (another d m refused before) =
+    ap (λ v. acceptedCall v name) (gave d m .words)
+    ∙ accepted-call-stays (d .call ∷ []) (record { words = d .before; history = fresh }) name (renewed d m refused, tt) (followed-one name e before)
+
+pub code-accepts-stays : CodeAcceptsStays function
+unfolding CodeAcceptsStays outcomeOf
+code-accepts-stays w u i a followed d m asks words =
+    let law = ap (λ (o : Outcome). o .answer) (due-is d asks words) in
+    let one = law ∙ followed-one (nameOf w i) (answered-one w i a) followed in
+    (gave d m .told .numbered ∙ ap number one, gave d m .told .valued ∙ ap value one)
 
 ran-right : {w : List ℕ} {h : History} → Ran function w h → Right w h
 unfolding outcomeOf

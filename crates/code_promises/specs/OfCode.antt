@@ -132,6 +132,17 @@ module _ {Name : Type 0} (function : Name → Function) where
   unfoldable pub CodeAcceptsOnce : Type 0
   CodeAcceptsOnce = (w : List ℕ) (i j : ℕ) → i < bookings w → j < bookings w → slotOf w i ≡ slotOf w j → Accepts w i → Accepts w j → i ≡ j
 
+  -- words that any calls lead to from the words w, no opening or reading that is taken among them
+  pub data Followed (w : List ℕ) : List ℕ → Type 0 where
+    nothing : Followed w w
+    another : (d : Done) → Made d → (opens (d .call) ≡ true → d .number ≢ 0) → Followed w (d .before) → Followed w (d .after)
+
+  -- there a name that was answered with 1 is answered with 1
+  unfoldable pub CodeAcceptsStays : Type 0
+  CodeAcceptsStays =
+      (w u : List ℕ) (i : ℕ) → Accepts w i → Followed w u → (d : Done) → Made d → d .call ≡ Ask Accepted (nameOf w i) → d .before ≡ u
+      → (d .number ≡ 0) × (d .value ≡ pos 1)
+
   -- words that any calls leave after a taken opening or a file that was read, with the history of their polls
   pub data Ran : List ℕ → History → Type 0 where
     opened : (d : Done) → Made d → opens (d .call) ≡ true → d .number ≡ 0 → Ran (d .after) (historyAfter (d .call) (d .before) fresh)

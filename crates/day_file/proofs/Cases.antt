@@ -1,4 +1,4 @@
--- CR 2 and CR 4: the cases of writing the day file, and of reading what was written, one table under one statement, computed from the definitions on whole
+-- CR 2, CR 4 and CR 5: the cases of writing the day file, and of reading what was written, one table under one statement, computed from the definitions on whole
 -- workspaces. Files that are bad stand in ReadCases.antt.
 -- Every step is a call with its refusals, as a user would make it. The bytes are plain numbers, worked out by hand from the request's words.
 use mathlib.Core.Path.{_≡_, sym, ap, ap₂, _∙_}
@@ -15,11 +15,12 @@ use Rattle.terms.specs.declared.answer.Tested.{Tested}
 use Rattle.terms.specs.Setting.{settingOf}
 use Rattle.terms.specs.Answers.{Outcome, Handover}
 use Rattle.terms.specs.Votes.{voteOf}
-use Rattle.rules.specs.Layout.{size, pollsField, confidenceField, counterField, withHeader, withField, withEntry}
+use Rattle.rules.specs.Layout.{size, pollsField, confidenceField, markField, counterField, markOf, withHeader, withField, withEntry}
 use Rattle.rules.specs.Ancestry.{ancestry, sweep, spread}
-use Rattle.rules.specs.IsSound.{headerGood, genesisGood, bookingGood, parentsGood, stateGood, chits, bookingsOf}
+use Rattle.rules.specs.IsSound.{headerGood, genesisGood, bookingGood, parentsGood, stateGood, markGood, chits, bookingsOf}
 use Rattle.rules.specs.Open.{opened, openWord}
 use Rattle.rules.specs.Book.{lookUp, hasUnknown, hasTwice, entered, booked}
+use Rattle.rules.specs.Marks.{anotherMarked, markOne}
 use Rattle.rules.specs.Poll.{polled, raiseOne, prefer, follow, settleOne}
 use Rattle.rules.specs.Calls.{openCall, bookBy, pollBy, bookCall, pollCall}
 use Rattle.rules.proofs.Same.{sameNumbers, Got, got, Passes, passes, sameTable, same-table}
@@ -149,6 +150,37 @@ second c =
 unfoldable pub secondRows : List (List Got)
 secondRows = given (is 88) (secondSays ++ 8 ∷ []) ∷ leaving 0 ∷ given (is 88) secondSays ∷ []
 
+-- ---- CR 5: 1 and 2 are accepted, each alone in its slot, 1 before its rival 4 is booked
+
+abbrev pub lateSays : List ℕ
+lateSays =
+    0 ∷ 4 ∷ 0 ∷ 1 ∷ 0 ∷ 1 ∷ 0 ∷ 1 ∷ 0 ∷ 2
+    ∷ 0 ∷ 4  -- bookings
+    ∷ 0 ∷ 0 ∷ 0 ∷ 0 ∷ 0 ∷ 0 ∷ 0 ∷ 1 ∷ 0 ∷ 7 ∷ 0 ∷ 1 ∷ 0 ∷ 0
+    ∷ 0 ∷ 0 ∷ 0 ∷ 0 ∷ 0 ∷ 0 ∷ 0 ∷ 2 ∷ 0 ∷ 8 ∷ 0 ∷ 1 ∷ 0 ∷ 0
+    ∷ 0 ∷ 0 ∷ 0 ∷ 0 ∷ 0 ∷ 0 ∷ 0 ∷ 3 ∷ 0 ∷ 9 ∷ 0 ∷ 2 ∷ 0 ∷ 1 ∷ 0 ∷ 2
+    ∷ 0 ∷ 0 ∷ 0 ∷ 0 ∷ 0 ∷ 0 ∷ 0 ∷ 4 ∷ 0 ∷ 7 ∷ 0 ∷ 1 ∷ 0 ∷ 0
+    ∷ 0 ∷ 3  -- polls
+    ∷ 0 ∷ 1 ∷ 0 ∷ 1
+    ∷ 0 ∷ 3 ∷ 0 ∷ 1
+    ∷ 0 ∷ 2 ∷ 0 ∷ 1
+    ∷ []
+
+unfoldable pub late : CallsMade → List (List Got)
+late c =
+    let first = c .book (c .book (openCall unopened (settingOf 1 1 1 2) .words) 1 7 (0 ∷ []) .words) 2 8 (0 ∷ []) .words in
+    let booked = c .book first 3 9 (1 ∷ 2 ∷ []) .words in
+    let accepted = c .poll (c .poll (c .poll booked 1 (1 ∷ []) .words) 3 (1 ∷ []) .words) 2 (1 ∷ []) .words in
+    let rivalled = c .book accepted 4 7 (0 ∷ []) .words in
+    let again = c .read rivalled lateSays in
+    (is (markOf rivalled 1) ∷ is (markOf rivalled 2) ∷ is (markOf (again .words) 1) ∷ is (markOf (again .words) 2) ∷ [])
+    ∷ read again (withField rivalled 1 markField 0)
+    ∷ []
+
+-- read, even on those very words, it gives every word but the mark of 1: there the rival is booked before the polls. Booking 2 is marked by its polls again
+unfoldable pub lateRows : List (List Got)
+lateRows = (is 1 ∷ is 1 ∷ is 0 ∷ is 1 ∷ []) ∷ leaving 0 ∷ []
+
 -- ---- the genesis alone, with the paper's setting
 
 abbrev pub aloneSays : List ℕ
@@ -210,11 +242,11 @@ damagedRows =
 
 -- what the cases give
 abbrev pub table : CallsMade → List (List Got)
-table c = example c ++ second c ++ alone c ++ damaged c
+table c = example c ++ second c ++ late c ++ alone c ++ damaged c
 
 -- what the requests say
 abbrev pub says : List (List Got)
-says = exampleRows ++ secondRows ++ aloneRows ++ damagedRows
+says = exampleRows ++ secondRows ++ lateRows ++ aloneRows ++ damagedRows
 
 -- ---- computed with the test that walks
 
@@ -234,19 +266,23 @@ made test =
     }
 
 example-walked : Passes (sameTable (example (made testWalked)) exampleRows)
-unfolding example exampleRows decode valueOf readMany inOrder dayOf parentCount holder highFirst joined encode sameNumbers testWalked badRecordWalked badSlotWalked headerGood genesisGood bookingGood parentsGood stateGood chits bookingsOf opened openWord lookUp hasUnknown hasTwice entered booked polled raiseOne prefer follow settleOne ancestry sweep spread voteOf openCall upTo firstFrom total greatest from walkFrom
+unfolding example exampleRows decode valueOf readMany inOrder dayOf parentCount holder highFirst joined encode sameNumbers testWalked badRecordWalked badSlotWalked headerGood genesisGood bookingGood parentsGood stateGood markGood chits bookingsOf opened openWord lookUp hasUnknown hasTwice entered booked polled raiseOne prefer follow settleOne anotherMarked markOne ancestry sweep spread voteOf openCall upTo firstFrom total greatest from walkFrom
 example-walked = tt
 
 second-walked : Passes (sameTable (second (made testWalked)) secondRows)
-unfolding second secondRows decode valueOf readMany inOrder dayOf parentCount holder highFirst joined encode sameNumbers testWalked badRecordWalked badSlotWalked headerGood genesisGood bookingGood parentsGood stateGood chits bookingsOf opened openWord lookUp hasUnknown hasTwice entered booked polled raiseOne prefer follow settleOne ancestry sweep spread voteOf openCall upTo firstFrom total greatest from walkFrom
+unfolding second secondRows decode valueOf readMany inOrder dayOf parentCount holder highFirst joined encode sameNumbers testWalked badRecordWalked badSlotWalked headerGood genesisGood bookingGood parentsGood stateGood markGood chits bookingsOf opened openWord lookUp hasUnknown hasTwice entered booked polled raiseOne prefer follow settleOne anotherMarked markOne ancestry sweep spread voteOf openCall upTo firstFrom total greatest from walkFrom
 second-walked = tt
 
+late-walked : Passes (sameTable (late (made testWalked)) lateRows)
+unfolding late lateRows decode valueOf readMany inOrder dayOf parentCount holder highFirst joined encode sameNumbers testWalked badRecordWalked badSlotWalked headerGood genesisGood bookingGood parentsGood stateGood markGood chits bookingsOf opened openWord lookUp hasUnknown hasTwice entered booked polled raiseOne prefer follow settleOne anotherMarked markOne ancestry sweep spread voteOf openCall upTo firstFrom total greatest from walkFrom
+late-walked = tt
+
 alone-walked : Passes (sameTable (alone (made testWalked)) aloneRows)
-unfolding alone aloneRows decode valueOf readMany inOrder dayOf parentCount holder highFirst joined encode sameNumbers testWalked badRecordWalked badSlotWalked headerGood genesisGood bookingGood parentsGood stateGood chits bookingsOf opened openWord lookUp hasUnknown hasTwice entered booked polled raiseOne prefer follow settleOne ancestry sweep spread voteOf openCall upTo firstFrom total greatest from walkFrom
+unfolding alone aloneRows decode valueOf readMany inOrder dayOf parentCount holder highFirst joined encode sameNumbers testWalked badRecordWalked badSlotWalked headerGood genesisGood bookingGood parentsGood stateGood markGood chits bookingsOf opened openWord lookUp hasUnknown hasTwice entered booked polled raiseOne prefer follow settleOne anotherMarked markOne ancestry sweep spread voteOf openCall upTo firstFrom total greatest from walkFrom
 alone-walked = tt
 
 damaged-walked : Passes (sameTable (damaged (made testWalked)) damagedRows)
-unfolding damaged damagedRows decode valueOf readMany inOrder dayOf parentCount holder highFirst joined encode sameNumbers testWalked badRecordWalked badSlotWalked headerGood genesisGood bookingGood parentsGood stateGood chits bookingsOf opened openWord lookUp hasUnknown hasTwice entered booked polled raiseOne prefer follow settleOne ancestry sweep spread voteOf openCall upTo firstFrom total greatest from walkFrom
+unfolding damaged damagedRows decode valueOf readMany inOrder dayOf parentCount holder highFirst joined encode sameNumbers testWalked badRecordWalked badSlotWalked headerGood genesisGood bookingGood parentsGood stateGood markGood chits bookingsOf opened openWord lookUp hasUnknown hasTwice entered booked polled raiseOne prefer follow settleOne anotherMarked markOne ancestry sweep spread voteOf openCall upTo firstFrom total greatest from walkFrom
 damaged-walked = tt
 
 -- one ledger's rows, by the calls of the law
@@ -258,5 +294,7 @@ rows-by rows said walked = ap (λ test. rows (made test)) (sym test-walked-is) �
 pub cases : table theCalls ≡ says
 cases =
     ap₂ _++_
-    (ap₂ _++_ (ap₂ _++_ (rows-by example exampleRows example-walked) (rows-by second secondRows second-walked)) (rows-by alone aloneRows alone-walked))
+    (ap₂ _++_
+    (ap₂ _++_ (ap₂ _++_ (rows-by example exampleRows example-walked) (rows-by second secondRows second-walked)) (rows-by late lateRows late-walked))
+    (rows-by alone aloneRows alone-walked))
     (rows-by damaged damagedRows damaged-walked)

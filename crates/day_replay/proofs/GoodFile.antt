@@ -147,12 +147,12 @@ module _ (file : List ℕ) (good : goodFile file ≡ true) where
     poll-able = (
       subst (λ v. Repollable v (readPoll (drop at file) .value)) (sym (turn .words))
           (subst (Repollable (repolled d q .words)) (sym poll-is)
-          (record { ledger = stage-poll-ledger d taken q (turn .most); booked = stage-polled d taken q h .0 })),
+          (record { ledger = stage-poll-ledger d taken q (turn .most); booked = stage-polled d taken q h .0; waiting = stage-polled d taken q h .1 })),
       omega (arith, turn-within _ _ _ _ _ _ turn h, length-pollBytes (pollIn (d .polls) q)),
     )
 
     pub poll-more : {r : ℕ} {w′ : List ℕ} → Replayed repolledOnce (readPoll (drop at file)) w file r w′ → Polling file w′ r (q + 1)
-    poll-more = turn-more _ _ _ _ _ _ turn h poll-undone (fits .polls .each) {once = repolledOnce} (stage-polled d taken q h .1)
+    poll-more = turn-more _ _ _ _ _ _ turn h poll-undone (fits .polls .each) {once = repolledOnce} (stage-polled d taken q h .2)
 
   pub poll-over : {w : List ℕ} {at q : ℕ} → Polling file w at q → length (d .polls) ≤ q → w ≡ replay d .words
   poll-over turn h = turn-over _ _ _ _ _ _ turn h .0 ∙ stage-ends d taken

@@ -2,13 +2,12 @@
 -- shows that the calls of the law leave the same.
 use Prim.Native.Nat.{ℕ, _<_, _≤_}
 use mathlib.Core.Path.{_≡_}
-use mathlib.Core.Bool.{cond}
 use mathlib.Core.List.{List}
 use lib.ListN.{length, drop}
-use Rattle.rules.specs.Layout.{mostBookings, mostParents, slots, bookings}
+use Rattle.rules.specs.Layout.{mostBookings, mostParents, slots, bookings, stateOf}
 use Rattle.rules.specs.Sound.{Ledger}
 use Rattle.rules.specs.Book.{bookedWith}
-use Rattle.rules.specs.Poll.{succeeded, failed}
+use Rattle.rules.specs.Poll.{polledBy}
 use Rattle.day_file.specs.Day.{DayBooking, DayPoll}
 use Rattle.day_file.specs.Decode.{Read}
 use Rattle.day_file.specs.InTurn.{places}
@@ -28,14 +27,15 @@ rebookedOnce w b = bookedWith w (b .name) (b .slot) (places (b .parents))
 
 -- ---- a poll
 
--- a ledger that has the booking
+-- a ledger that has the booking, which waits
 pub record Repollable (w : List ℕ) (q : DayPoll) : Type 0 where
   pub ledger : Ledger w
   pub booked : q .booking < bookings w
+  pub waiting : stateOf w (q .booking) ≡ 0
 
 -- what its outcome leaves
 abbrev pub repolledOnce : List ℕ → DayPoll → List ℕ
-repolledOnce w q = cond (q .success) (succeeded w (q .booking)) (failed w (q .booking))
+repolledOnce w q = polledBy (q .success) w (q .booking)
 
 -- ---- a row at an offset
 

@@ -9,7 +9,7 @@ use votes;
 ghost use mathlib.Core.Path.{_≡_};
 ghost use Prim.Native.Nat.{_<_};
 ghost use lib.ListN.{length};
-ghost use Rattle.rules.specs.Layout.{size, mostBookings, bookings};
+ghost use Rattle.rules.specs.Layout.{size, mostBookings, bookings, stateOf};
 ghost use Rattle.terms.specs.Answers.{outcome};
 ghost use Rattle.rules.specs.Sound.{Ledger};
 ghost use Rattle.rules.specs.Poll.{isSuccess, polled};
@@ -23,9 +23,9 @@ fn is_success(w: &[u16], votes: &[u8]) -> bool
     words::wide(words::header(w, layout::A)) <= votes::count_yes(votes)
 }
 
-// Booking i after the poll, by the votes.
+// The words after the poll of booking i, which waits, by the votes.
 fn write_poll(w: &mut [u16], i: usize, votes: &[u8])
-    requires { ⌜ Ledger (now w) × (i < bookings (now w)) ⌝ }
+    requires { ⌜ Ledger (now w) × (i < bookings (now w)) × (stateOf (now w) i ≡ 0) ⌝ }
     ensures { λ _. ⌜ now (w .exit) ≡ polled (now (w .entry)) i (now (votes .entry)) ⌝ }
 {
     let success = is_success(w, votes);

@@ -40,7 +40,7 @@ fn value_of(w: &[u16], i: usize, what: Reading) -> i64
 {
     match what {
         Reading::Query => flag(preference::query_of(w, i)),
-        Reading::Accepted => flag(acceptance::accepted_of(w, i)),
+        Reading::Accepted => flag(booking_reads::booking::is_accepted(w, i)),
         Reading::Lead => booking_reads::lead::lead_of(w, i),
         Reading::Confidence => confidence_value(w, i),
         Reading::Size => size_value(w, i),

@@ -12,12 +12,15 @@ const FIRST_WORDS: usize = layout::HEADER_WORDS + layout::RECORD_WORDS;
 // How many bookings slot 0 holds.
 const FIRST_HELD: usize = layout::SLOTS_START + layout::HELD;
 
+// The genesis is accepted from the start.
+const MARKED: u16 = 1;
+
 // In the order of the words, so that each loop becomes a run of wide stores.
 pub fn write_open(w: &mut [u16], s: Setting)
     requires { ⌜ length (now w) ≡ size ⌝ }
     ensures { λ _. ⌜ now (w .exit) ≡ opened s ⌝ }
 {
-    // n = 1, the setting, p = 0; then name 0, slot 0, no parents, polled without a chit
+    // n = 1, the setting, p = 0; then name 0, slot 0, no parents, polled without a chit, marked
     let first: [u16; FIRST_WORDS] = [
         1,
         s.k,
@@ -39,6 +42,7 @@ pub fn write_open(w: &mut [u16], s: Setting)
         1,
         0,
         0,
+        MARKED,
     ];
     for j in 0..FIRST_WORDS {
         w[j] = first[j];

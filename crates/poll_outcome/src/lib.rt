@@ -1,16 +1,16 @@
-// A poll's outcome, written: a success raises and settles the ancestry of its booking, which is gathered first; a failure is noted only.
+// A poll's outcome, written: a success raises and settles the ancestry of its booking, which is gathered first; a failure is noted only. Then, whatever
+// the outcome, those who meet the rule of acceptance are marked.
 use poll_writes::writing;
 ghost use mathlib.Core.Path.{_≡_};
-ghost use mathlib.Core.Bool.{cond};
 ghost use Prim.Native.Nat.{_<_};
-ghost use Rattle.rules.specs.Layout.{bookings};
+ghost use Rattle.rules.specs.Layout.{bookings, stateOf};
 ghost use Rattle.rules.specs.Sound.{Ledger};
-ghost use Rattle.rules.specs.Poll.{succeeded, failed};
+ghost use Rattle.rules.specs.Poll.{concluded, polledBy};
 
-// Booking i after a poll.
-pub fn write_outcome(w: &mut [u16], i: usize, success: bool)
+// Booking i after a poll, before anybody is marked.
+fn conclude(w: &mut [u16], i: usize, success: bool)
     requires { ⌜ Ledger (now w) × (i < bookings (now w)) ⌝ }
-    ensures { λ _. ⌜ now (w .exit) ≡ cond success (succeeded (now (w .entry)) i) (failed (now (w .entry)) i) ⌝ }
+    ensures { λ _. ⌜ now (w .exit) ≡ concluded success (now (w .entry)) i ⌝ }
 {
     if success {
         let mut members = [0u64; bits::BIT_WORDS];
@@ -19,4 +19,13 @@ pub fn write_outcome(w: &mut [u16], i: usize, success: bool)
     } else {
         writing::write_failure(w, i);
     }
+}
+
+// The words after a poll of booking i, which waits.
+pub fn write_outcome(w: &mut [u16], i: usize, success: bool)
+    requires { ⌜ Ledger (now w) × (i < bookings (now w)) × (stateOf (now w) i ≡ 0) ⌝ }
+    ensures { λ _. ⌜ now (w .exit) ≡ polledBy success (now (w .entry)) i ⌝ }
+{
+    conclude(w, i, success);
+    acceptance::mark_accepted(w);
 }

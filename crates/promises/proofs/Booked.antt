@@ -3,21 +3,7 @@ use mathlib.Core.Path.{_≡_, _∙_}
 use mathlib.Core.List.{List}
 use Prim.Native.Nat.{ℕ, _+_, _<_, _≤_}
 use native.Mathlib.Omega.{arith}
-use Rattle.rules.specs.Layout.{
-  recordWords,
-  spareField,
-  slotField,
-  parentsField,
-  stateField,
-  ordinalField,
-  preferredField,
-  field,
-  bookings,
-  polls,
-  slotOf,
-  confidenceOf,
-  preferredIn,
-}
+use Rattle.rules.specs.Layout.{recordWords, spareField, slotField, parentsField, stateField, ordinalField, preferredField, field, bookings, polls, slotOf, confidenceOf, preferredIn, markField}
 use Rattle.rules.specs.Sound.{Sound, Ledger}
 use Rattle.rules.specs.Book.{booked}
 use Rattle.rule_laws.proofs.Slots.{bookingsOf-some, slotOf-lt, preferredIn-lt}
@@ -42,6 +28,8 @@ use Rattle.promises.proofs.BookedRecords.{
   ordinalOf-booked-most,
   ordinalOf-booked-held,
   ordinalOf-booked-alone,
+  markOf-booked-known,
+  markOf-booked-alone,
   confidenceOf-booked-most,
   field-booked-rest,
 }
@@ -69,11 +57,14 @@ module _ (w : List ℕ) (name slot : ℕ) (parents : List ℕ) (ledger : Ledger 
         genesisParents = λ a h. genesis-field (parentsField + a) (omega arith) ∙ sound .genesisParents a h;
         genesisState = genesis-field stateField (omega arith) ∙ sound .genesisState;
         genesisOrdinal = genesis-field ordinalField (omega arith) ∙ sound .genesisOrdinal;
+        genesisMark = genesis-field markField (omega arith) ∙ sound .genesisMark;
         nameAlone = λ i j u v. nameOf-booked-alone w name slot parents ledger bookable i u j v;
         booking = λ i l u. Booking-booked w name slot parents ledger bookable i u l;
         ordinalMost = λ i u. omega (arith, ordinalOf-booked-most w name slot parents ledger bookable i u);
         ordinalHeld = λ o l u. ordinalOf-booked-held w name slot parents ledger bookable o l (omega arith);
         ordinalAlone = λ i j u v. ordinalOf-booked-alone w name slot parents ledger bookable i u j v;
+        markKnown = markOf-booked-known w name slot parents ledger bookable;
+        markAlone = λ i j u v. markOf-booked-alone w name slot parents ledger bookable i u j v;
         restZero = field-booked-rest w name slot parents ledger bookable;
         emptyEntry = EmptyEntry-booked w name slot parents ledger bookable;
         heldEntry = HeldEntry-booked w name slot parents ledger bookable;

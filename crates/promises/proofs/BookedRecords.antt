@@ -5,35 +5,19 @@ use mathlib.Core.Logic.{_≢_, ⊎-elim}
 use Prim.Native.Nat.{ℕ, _+_, _<_, _≤_}
 use native.Mathlib.Nat.{eq-or-lt-of-le}
 use native.Mathlib.Omega.{arith}
-use native.Mathlib.Decide.{decLt}
+use native.Mathlib.Decide.{decLt, ℕ-discrete}
 use lib.ListN.{length, getD}
 use lib.Dec.{eqb}
 use borrow.Author.Tests.{lt-ltb, le-ltb}
 use Rattle.loops.specs.Total.{bit, total}
 use Rattle.loops.proofs.Total.{total-more, total-same}
-use Rattle.rules.specs.Layout.{
-  mostBookings,
-  mostParents,
-  recordWords,
-  none,
-  slotField,
-  stateField,
-  confidenceField,
-  ordinalField,
-  field,
-  bookings,
-  polls,
-  nameOf,
-  parentOf,
-  confidenceOf,
-  ordinalOf,
-}
+use Rattle.rules.specs.Layout.{mostBookings, mostParents, recordWords, none, slotField, stateField, confidenceField, ordinalField, field, bookings, polls, nameOf, parentOf, confidenceOf, ordinalOf, markField, markOf, slotOf}
 use Rattle.rules.specs.IsSound.{chits, bookingsOf}
 use Rattle.rules.specs.Sound.{Booking, Ledger}
 use Rattle.rules.specs.Book.{numberOf, parentFound, parentNumbers, newRecord, booked}
 use Rattle.rule_laws.proofs.Lookup.{parent-found, parent-below, found-name}
 use Rattle.promises.proofs.Taken.{Bookable}
-use Rattle.promises.proofs.Unchanged.{Booking-kept}
+use Rattle.rule_laws.proofs.Unchanged.{Booking-kept}
 use Rattle.promises.proofs.BookedWords.{
   bookings-booked,
   field-booked-other,
@@ -75,6 +59,15 @@ module _ (w : List ℕ) (name slot : ℕ) (parents : List ℕ) where
 
     old-ordinal : (i : ℕ) → i < bookings w → ordinalOf after i ≡ ordinalOf w i
     old-ordinal i u = field-booked-old i ordinalField u (omega arith)
+
+    new-mark : markOf after (bookings w) ≡ 0
+    new-mark = field-booked-same w name slot parents (ledger .whole) (bookable .room) markField (omega arith)
+
+    pub markOf-booked-old : (i : ℕ) → i < bookings w → markOf after i ≡ markOf w i
+    markOf-booked-old i u = field-booked-old i markField u (omega arith)
+
+    old-slot : (i : ℕ) → i < bookings w → slotOf after i ≡ slotOf w i
+    old-slot i u = field-booked-old i slotField u (omega arith)
 
     -- ---- sums over the bookings
 
@@ -145,7 +138,7 @@ module _ (w : List ℕ) (name slot : ℕ) (parents : List ℕ) where
     pub Booking-booked : (i : ℕ) → i < bookings after → 0 < i → Booking after i
     Booking-booked =
         each-booked (λ i. 0 < i → Booking after i) (λ l. new-booking)
-        (λ i u l. Booking-kept w after i (λ g h d. field-booked-old i g u h) (ledger .sound .booking i l u))
+        (λ i u l. Booking-kept w after i (λ g h c m. field-booked-old i g u h) (ledger .sound .booking i l u))
 
     pub nameOf-booked-alone : (i : ℕ) → i < bookings after → (j : ℕ) → j < bookings after → i ≢ j → nameOf after i ≢ nameOf after j
     nameOf-booked-alone =
@@ -176,6 +169,24 @@ module _ (w : List ℕ) (name slot : ℕ) (parents : List ℕ) where
         each-booked (λ j. i ≢ j → ordinalOf after i ≢ 0 → ordinalOf after i ≢ ordinalOf after j)
         (λ q z e. z (e ∙ new-ordinal))
         (λ j v q z e. ledger .sound .ordinalAlone i j u v q (λ y. z (old-ordinal i u ∙ y)) (sym (old-ordinal i u) ∙ e ∙ old-ordinal j v)))
+
+    pub markOf-booked-known : (i : ℕ) → i < bookings after → markOf after i ≤ 1
+    markOf-booked-known =
+        each-booked (λ i. markOf after i ≤ 1) (omega (arith, new-mark)) (λ i u. omega (arith, markOf-booked-old i u, ledger .sound .markKnown i u))
+
+    pub markOf-booked-alone : (i : ℕ) → i < bookings after → (j : ℕ) → j < bookings after → i ≢ j → markOf after i ≡ 1 → markOf after j ≡ 1 → slotOf after i ≢ slotOf after j
+    markOf-booked-alone =
+        each-booked (λ i. (j : ℕ) → j < bookings after → i ≢ j → markOf after i ≡ 1 → markOf after j ≡ 1 → slotOf after i ≢ slotOf after j)
+        (λ j v q mi. absurd (omega (arith, new-mark)))
+        (λ i u.
+        each-booked (λ j. i ≢ j → markOf after i ≡ 1 → markOf after j ≡ 1 → slotOf after i ≢ slotOf after j)
+        (λ q mi mj. absurd (omega (arith, new-mark)))
+        (λ j v q mi mj e.
+        ledger .sound .markAlone i j u v q (sym (markOf-booked-old i u) ∙ mi) (sym (markOf-booked-old j v) ∙ mj) (sym (old-slot i u) ∙ e ∙ old-slot j v)))
+
+    -- no word that is a mark changes, of a booking or of a record that is none
+    pub markOf-booked : (i : ℕ) → i < mostBookings → markOf after i ≡ markOf w i
+    markOf-booked i u = elim (ℕ-discrete i (bookings w)) [ yes e ↦ rw e (new-mark ∙ sym (ledger .sound .restZero (bookings w) markField (omega arith) (bookable .room) (omega arith))) | no d ↦ field-booked-other w name slot parents i u d markField (omega arith) ]
 
     pub confidenceOf-booked-most : (i : ℕ) → i < bookings after → confidenceOf after i ≤ chits w
     confidenceOf-booked-most =

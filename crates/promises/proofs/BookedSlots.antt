@@ -28,7 +28,7 @@ use Rattle.rules.specs.IsSound.{chits, bookingsOf}
 use Rattle.rules.specs.Sound.{BookingOf, EmptyEntry, HeldEntry, Ledger}
 use Rattle.rules.specs.Book.{booked}
 use Rattle.promises.proofs.Taken.{Bookable}
-use Rattle.promises.proofs.Unchanged.{EmptyEntry-kept}
+use Rattle.rule_laws.proofs.Unchanged.{EmptyEntry-kept}
 use Rattle.promises.proofs.Entered.{firstEntry}
 use Rattle.promises.proofs.BookedWords.{
   bookings-booked,

@@ -3,11 +3,11 @@ use mathlib.Core.Path.{_≡_}
 use mathlib.Core.List.{List}
 use Prim.Native.Nat.{ℕ, _<_}
 use native.Mathlib.Omega.{arith}
-use Rattle.rules.specs.Layout.{entry, bookings, slotField, preferredField, lastField, counterField, heldField, slotOf, confidenceOf, preferredIn}
+use Rattle.rules.specs.Layout.{entry, bookings, slotField, preferredField, lastField, counterField, heldField, slotOf, confidenceOf, preferredIn, markField}
 use Rattle.rules.specs.Sound.{Ledger}
 use Rattle.rules.specs.Poll.{failed}
 use Rattle.rule_laws.proofs.Slots.{booking-lt}
-use Rattle.rule_laws.proofs.Noted.{confidence-noted, entry-noted-kept}
+use Rattle.rule_laws.proofs.Noted.{field-noted-beside, confidence-noted, entry-noted-kept}
 use Rattle.promises.proofs.Taken.{Led}
 use Rattle.promises.proofs.Noted.{Noted, noted-Noted, Noted-bookings}
 use Rattle.promises.proofs.PolledSound.{Gained}
@@ -30,6 +30,7 @@ module _ (w : List ℕ) (i : ℕ) (ledger : Ledger w) (below : i < bookings w) w
     held = λ s. entry-failed s heldField;
     preferred = λ s b. rw (entry-failed s preferredField) b;
     last = λ s b. rw (entry-failed s lastField) b;
+    mark = λ j u. field-noted-beside w i 1 j markField (omega arith) (omega arith) (omega arith);
     counter = λ s. omega (arith, entry-failed s counterField);
   }
 

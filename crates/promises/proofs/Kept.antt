@@ -1,6 +1,6 @@
 -- A ledger stays a ledger, and its bookings last: every call, taken or refused, on any sound workspace.
-use mathlib.Core.Path.{_≡_, refl, sym, subst}
-use mathlib.Core.Bool.{Bool, true, false, true≢false}
+use mathlib.Core.Path.{_≡_, refl, sym, ap, subst}
+use mathlib.Core.Bool.{Bool, true, false, true≢false, _&&_}
 use mathlib.Core.List.{List}
 use Prim.Native.Nat.{ℕ}
 use Rattle.terms.specs.declared.setting.Setting.{Setting}
@@ -11,6 +11,7 @@ use Rattle.rules.specs.Sound.{Ledger}
 use Rattle.rule_laws.proofs.Opened.{opened-ledger}
 use Rattle.day_file.specs.Calls.{readFirstCall}
 use Rattle.promises.specs.Run.{Call, Open, Book, Poll, Ask, WriteFirst, ReadFirst, outcomeOf, opens}
+use Rattle.promises.specs.Acceptance.{renews}
 use Rattle.promises.specs.Soundness.{OpenedSound, SoundKept}
 use Rattle.promises.specs.Lasting.{Grown, BookingsLast, AncestryLasts}
 use Rattle.promises.proofs.Taken.{open-taken, open-kept, book-taken, book-kept, poll-taken, poll-kept, write-words, read-taken, read-kept}
@@ -20,9 +21,9 @@ use Rattle.promises.proofs.Good.{file-ledger}
 use Rattle.promises.proofs.Grown.{grown-self, ancestry-grown, reaches-grown}
 
 -- u is a ledger that has grown from w
-record Continues (w u : List ℕ) : Type 0 where
-  ledger : Ledger u
-  grown : Grown w u
+pub record Continues (w u : List ℕ) : Type 0 where
+  pub ledger : Ledger u
+  pub grown : Grown w u
 
 kept-words : {w v u : List ℕ} → u ≡ v → Continues w v → Continues w u
 kept-words {w = w} e k = subst (Continues w) (sym e) k
@@ -46,14 +47,14 @@ kept-poll w name votes true t l =
 kept-poll w name votes false t l = kept-words (poll-kept w name votes t) (kept-self w l)
 
 -- every call that makes no new ledger
-call-kept : (c : Call) (w : List ℕ) → opens c ≡ false → Ledger w → Continues w (outcomeOf c w .words)
+pub call-kept : (c : Call) (w : List ℕ) → renews c w ≡ false → Ledger w → Continues w (outcomeOf c w .words)
 unfolding outcomeOf
-call-kept (Open s) w n l = absurd (true≢false n)
+call-kept (Open s) w n l = kept-words (open-kept w s n) (kept-self w l)
 call-kept (Book name slot parents) w n l = kept-book w name slot parents (isTaken (bookCall w name slot parents .answer)) refl l
 call-kept (Poll name votes) w n l = kept-poll w name votes (isTaken (pollCall w name votes .answer)) refl l
 call-kept (Ask what name) w n l = kept-self w l
 call-kept (WriteFirst buffer) w n l = kept-words (write-words w buffer) (kept-self w l)
-call-kept (ReadFirst file) w n l = absurd (true≢false n)
+call-kept (ReadFirst file) w n l = kept-words (read-kept w file n) (kept-self w l)
 
 -- ---- the promises
 
@@ -86,12 +87,16 @@ sound-kept (Ask what name) w l = l
 sound-kept (WriteFirst buffer) w l = call-kept (WriteFirst buffer) w refl l .ledger
 sound-kept (ReadFirst file) w l = read-sound w file (isTaken (readFirstCall w file .answer)) refl l
 
+-- nor does one that neither opens nor reads
+kept-ledger : (c : Call) (w : List ℕ) → opens c ≡ false → Ledger w → Continues w (outcomeOf c w .words)
+kept-ledger c w n = call-kept c w (ap (λ b. b && isTaken (outcomeOf c w .answer)) n)
+
 pub bookings-last : BookingsLast
 unfolding BookingsLast
-bookings-last c w n l = call-kept c w n l .grown
+bookings-last c w n l = kept-ledger c w n l .grown
 
 pub ancestry-lasts : AncestryLasts
 unfolding AncestryLasts
 ancestry-lasts c w n l i h =
-    let g = call-kept c w n l .grown in
+    let g = kept-ledger c w n l .grown in
     (ancestry-grown w (outcomeOf c w .words) l g i h, λ j. reaches-grown w (outcomeOf c w .words) l g i j h)

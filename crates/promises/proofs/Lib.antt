@@ -1,7 +1,6 @@
 -- The proofs of the promises. They assume nothing.
 pub mod Taken
 pub mod Grown
-pub mod Unchanged
 pub mod Entered
 pub mod BookedWords
 pub mod BookedRecords
@@ -19,6 +18,7 @@ pub mod Polled
 pub mod Run
 pub mod Good
 pub mod Kept
+pub mod Marks
 pub mod Told
 pub mod DayFile
 pub mod DayGrown

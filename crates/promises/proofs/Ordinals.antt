@@ -46,7 +46,7 @@ module _ (w : List ℕ) (i : ℕ) (sound : Sound w) (pollable : Pollable w i) wh
     each-noted P polled other j u = elim (ℕ-discrete j i) [ yes e ↦ rw e polled | no d ↦ other j (omega (arith, Noted-bookings n)) d ]
 
     ordinal-other : (j : ℕ) → j < bookings w → j ≢ i → ordinalOf v j ≡ ordinalOf w j
-    ordinal-other j u d = n .other j ordinalField (omega (arith, sound .bookingsMost)) (omega arith) (omega arith) d
+    ordinal-other j u d = n .other j ordinalField (omega (arith, sound .bookingsMost)) (omega arith) (omega arith) (omega arith) d
 
     -- every other is at most p
     ordinal-other-le : (j : ℕ) → j < bookings w → j ≢ i → ordinalOf v j ≤ polls w

@@ -1,5 +1,5 @@
--- A sound workspace in which a poll is noted stays sound, if no confidence and no counter gained more than the chits did and
--- each slot's preferred and last are bookings of it still.
+-- A sound workspace in which a poll is noted stays sound, if no confidence and no counter gained more than the chits did,
+-- each slot's preferred and last are bookings of it still, and the marks stay.
 use mathlib.Core.Path.{_≡_, sym, ap, _∙_}
 use mathlib.Core.List.{List}
 use mathlib.Core.Logic.{_≢_}
@@ -9,32 +9,13 @@ use native.Mathlib.Omega.{arith}
 use lib.Dec.{eqb}
 use Rattle.loops.specs.Total.{bit}
 use Rattle.loops.proofs.Total.{total-same, total-other}
-use Rattle.rules.specs.Layout.{
-  slots,
-  mostBookings,
-  recordWords,
-  slotWords,
-  field,
-  entry,
-  bookings,
-  spareField,
-  stateField,
-  confidenceField,
-  ordinalField,
-  slotOf,
-  stateOf,
-  confidenceOf,
-  preferredIn,
-  lastIn,
-  counterIn,
-  heldIn,
-}
+use Rattle.rules.specs.Layout.{slots, mostBookings, recordWords, slotWords, field, entry, bookings, spareField, stateField, confidenceField, ordinalField, slotOf, stateOf, confidenceOf, preferredIn, lastIn, counterIn, heldIn, markField, markOf}
 use Rattle.rules.specs.IsSound.{chits, bookingsOf}
 use Rattle.rules.specs.Sound.{Sound, Booking, BookingOf, EmptyEntry, HeldEntry}
 use Rattle.rule_laws.proofs.Words.{settingIn-kept}
 use Rattle.promises.specs.Lasting.{Grown}
 use Rattle.promises.proofs.Taken.{Pollable}
-use Rattle.promises.proofs.Unchanged.{Booking-told, Booking-kept, EmptyEntry-kept}
+use Rattle.rule_laws.proofs.Unchanged.{Booking-told, Booking-kept, EmptyEntry-kept}
 use Rattle.promises.proofs.Noted.{Noted, Noted-bookings, Noted→Grown}
 use Rattle.promises.proofs.Ordinals.{
   polled-above,
@@ -45,7 +26,7 @@ use Rattle.promises.proofs.Ordinals.{
   ordinal-noted-alone,
 }
 
--- what confidences and slot entries became, from w to v
+-- what confidences, marks and slot entries became, from w to v, before anybody is marked
 pub record Gained (w v : List ℕ) (gain : ℕ) : Type 0 where
   pub confidence : (j : ℕ) → j < bookings w → confidenceOf v j ≤ confidenceOf w j + gain
   pub confidenceRest : (j : ℕ) → bookings w ≤ j → j < mostBookings → confidenceOf v j ≡ confidenceOf w j
@@ -53,6 +34,7 @@ pub record Gained (w v : List ℕ) (gain : ℕ) : Type 0 where
   pub held : (s : ℕ) → heldIn v s ≡ heldIn w s
   pub preferred : (s : ℕ) → BookingOf w s (preferredIn w s) → BookingOf w s (preferredIn v s)
   pub last : (s : ℕ) → BookingOf w s (lastIn w s) → BookingOf w s (lastIn v s)
+  pub mark : (j : ℕ) → j < mostBookings → markOf v j ≡ markOf w j
   pub counter : (s : ℕ) → counterIn v s ≤ counterIn w s + gain
 
 module _ (w v : List ℕ) (i state : ℕ) (sound : Sound w) (pollable : Pollable w i) (n : Noted w v i state) where
@@ -80,7 +62,7 @@ module _ (w v : List ℕ) (i state : ℕ) (sound : Sound w) (pollable : Pollable
       rw (Noted-bookings n)
       (total-other (λ j. bit (eqb (stateOf w j) 2)) (λ j. bit (eqb (stateOf v j) 2)) (bookings w) i (bit (eqb state 2)) (pollable .below)
       (rw (n .stateNow, pollable .waiting) (omega arith))
-      (λ j u d. ap (λ x. bit (eqb x 2)) (n .other j stateField (omega (arith, sound .bookingsMost)) (omega arith) (omega arith) d)))
+      (λ j u d. ap (λ x. bit (eqb x 2)) (n .other j stateField (omega (arith, sound .bookingsMost)) (omega arith) (omega arith) (omega arith) d)))
 
   -- ---- records
 
@@ -91,18 +73,20 @@ module _ (w v : List ℕ) (i state : ℕ) (sound : Sound w) (pollable : Pollable
       Booking-told w v i (λ g h. n .told i g (few i (omega (arith, Noted-bookings n, pollable .below))) h) (sound .booking i l (pollable .below))
       (omega (arith, n .stateNow))
       (λ e. absurd (omega (arith, n .ordinalNow)), λ e. absurd (omega (arith, n .stateNow))))
-      (λ j u d l. Booking-kept w v j (λ g h c. n .other j g (omega (arith, sound .bookingsMost)) h c d) (sound .booking j l u))
+      (λ j u d l. Booking-kept w v j (λ g h c m. n .other j g (omega (arith, sound .bookingsMost)) h c m d) (sound .booking j l u))
 
   rest-noted : ((j : ℕ) → bookings w ≤ j → j < mostBookings → confidenceOf v j ≡ confidenceOf w j)
+      → ((j : ℕ) → j < mostBookings → markOf v j ≡ markOf w j)
       → (j g : ℕ) → bookings v ≤ j → j < mostBookings → g < recordWords → field v j g ≡ 0
-  rest-noted rest j g l u h = go (ℕ-discrete g confidenceField)
+  rest-noted rest marks j g l u h = go (ℕ-discrete g confidenceField) (ℕ-discrete g markField)
     where
       past : bookings w ≤ j
       past = omega (arith, Noted-bookings n)
 
-      go : Dec (g ≡ confidenceField) → field v j g ≡ 0
-      go (yes e) = rw e (rest j past u ∙ sound .restZero j confidenceField past u (omega arith))
-      go (no d) = n .other j g u h d (λ e. omega (arith, past, pollable .below)) ∙ sound .restZero j g past u h
+      go : Dec (g ≡ confidenceField) → Dec (g ≡ markField) → field v j g ≡ 0
+      go (yes e) m = rw e (rest j past u ∙ sound .restZero j confidenceField past u (omega arith))
+      go (no c) (yes e) = rw e (marks j u ∙ sound .restZero j markField past u (omega arith))
+      go (no c) (no m) = n .other j g u h c m (λ e. omega (arith, past, pollable .below)) ∙ sound .restZero j g past u h
 
   -- ---- slot entries
 
@@ -129,6 +113,7 @@ module _ (w v : List ℕ) (i state : ℕ) (sound : Sound w) (pollable : Pollable
   pub sound-noted : 1 ≤ state → state ≤ 2 → Gained w v (bit (eqb state 2)) → Sound v
   sound-noted least most gained =
       let first : 0 < bookings w = sound .bookingsLeast in
+      let marks = gained .mark in
       let another : 0 ≢ i = λ e. omega (arith, polled-above w i sound pollable) in
       record {
         bookingsLeast = omega (arith, Noted-bookings n);
@@ -140,14 +125,19 @@ module _ (w v : List ℕ) (i state : ℕ) (sound : Sound w) (pollable : Pollable
         genesisName = grown .name 0 first ∙ sound .genesisName;
         genesisSlot = grown .slot 0 first ∙ sound .genesisSlot;
         genesisParents = λ a l. grown .parent 0 a first l ∙ sound .genesisParents a l;
-        genesisState = n .other 0 stateField (omega arith) (omega arith) (omega arith) another ∙ sound .genesisState;
-        genesisOrdinal = n .other 0 ordinalField (omega arith) (omega arith) (omega arith) another ∙ sound .genesisOrdinal;
+        genesisState = n .other 0 stateField (omega arith) (omega arith) (omega arith) (omega arith) another ∙ sound .genesisState;
+        genesisOrdinal = n .other 0 ordinalField (omega arith) (omega arith) (omega arith) (omega arith) another ∙ sound .genesisOrdinal;
+        genesisMark = marks 0 (omega arith) ∙ sound .genesisMark;
         nameAlone = λ j k u x q e. sound .nameAlone j k (old j u) (old k x) q (sym (grown .name j (old j u)) ∙ e ∙ grown .name k (old k x));
         booking = λ j l u. Booking-noted least most j u l;
         ordinalMost = ordinal-noted-most w i sound pollable v state n;
         ordinalHeld = ordinal-noted-held w i sound pollable v state n;
         ordinalAlone = λ j k u x. ordinal-noted-alone w i sound pollable v state n j u k x;
-        restZero = rest-noted (gained .confidenceRest);
+        markKnown = λ j u. omega (arith, marks j (few j u), sound .markKnown j (old j u));
+        markAlone = λ j k u x q mj mk e.
+            sound .markAlone j k (old j u) (old k x) q (sym (marks j (few j u)) ∙ mj) (sym (marks k (few k x)) ∙ mk)
+            (sym (grown .slot j (old j u)) ∙ e ∙ grown .slot k (old k x));
+        restZero = rest-noted (gained .confidenceRest) marks;
         emptyEntry = emptyEntry-noted (bit (eqb state 2)) gained;
         heldEntry = heldEntry-noted (bit (eqb state 2)) gained;
         confidenceMost = λ j u. omega (arith, chits-noted, gained .confidence j (old j u), sound .confidenceMost j (old j u));

@@ -9,7 +9,7 @@ use Rattle.loops.specs.Fill.{from}
 use Rattle.terms.specs.Answers.{outcome, value, done}
 use Rattle.rules.specs.Layout.{size}
 use Rattle.rules.specs.Sound.{Ledger}
-use Rattle.rules.specs.Poll.{isSuccess, succeeded, failed, polled}
+use Rattle.rules.specs.Poll.{isSuccess, polledBy, polled}
 use Rattle.rules.specs.Book.{lookUp, numberOf}
 use Rattle.rules.specs.Calls.{pollCall}
 use Rattle.day_file.specs.Day.{Day, dayOf}
@@ -124,7 +124,7 @@ pub outcome-decides : OutcomeDecides
 unfolding OutcomeDecides polled
 outcome-decides w name votes others t s same =
     poll-outcome w name votes t
-    ∙ (λ i. outcome done (cond (same i) (succeeded w (numberOf (lookUp w name))) (failed w (numberOf (lookUp w name)))))
+    ∙ (λ i. outcome done (polledBy (same i) w (numberOf (lookUp w name))))
     ∙ sym (poll-outcome w name others s)
 
 -- ---- there and back

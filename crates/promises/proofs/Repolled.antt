@@ -21,7 +21,7 @@ use Rattle.terms.specs.Votes.{voteOf, isYes}
 use Rattle.rules.specs.Layout.{ordinalField, stateField, bookings, settingIn, polls, nameOf, stateOf, ordinalOf}
 use Rattle.rules.specs.Sound.{Ledger}
 use Rattle.rules.specs.Book.{lookUp, numberOf}
-use Rattle.rules.specs.Poll.{yesVotes, isSuccess, failed, succeeded, polled}
+use Rattle.rules.specs.Poll.{yesVotes, isSuccess, polledBy, polled}
 use Rattle.rules.specs.Calls.{testOf, pollBy, pollCall}
 use Rattle.rule_laws.proofs.Lookup.{found-is}
 use Rattle.rule_laws.proofs.Slots.{booking-lt}
@@ -32,9 +32,7 @@ use Rattle.day_file.proofs.Holders.{holder-alone}
 use Rattle.promises.proofs.Taken.{Pollable, poll-taken}
 use Rattle.promises.proofs.Noted.{Noted, Noted-bookings, Noted→Grown}
 use Rattle.promises.proofs.Ordinals.{polled-ordinal}
-use Rattle.promises.proofs.Succeeded.{succeeded-Noted}
-use Rattle.promises.proofs.Failed.{failed-Noted}
-use Rattle.promises.proofs.Polled.{polled-ledger}
+use Rattle.promises.proofs.Polled.{polledBy-Noted, polledBy-ledger}
 use Rattle.promises.proofs.DayGrown.{bookings-grown, PollsKept, polls-kept}
 use Rattle.promises.proofs.Rebooked.{taken-cond}
 
@@ -60,19 +58,15 @@ votes-decide w good false = lt-leb (settingIn w .a) (yesVotes (votesFor w false)
 
 -- ---- a taken one
 
--- the words after a poll with an outcome
-abbrev pub polledAs : Bool → List ℕ → ℕ → List ℕ
-polledAs success w i = cond success (succeeded w i) (failed w i)
-
 pub record Repolling (q : DayPoll) (w u : List ℕ) : Type 0 where
   pub ledger : Ledger w
   pub able : Pollable w (q .booking)
-  pub words : u ≡ polledAs (q .success) w (q .booking)
+  pub words : u ≡ polledBy (q .success) w (q .booking)
 
 -- so the words are those of the outcome
-pub polled-as : (w : List ℕ) → Good (settingIn w) → (i : ℕ) (success : Bool) → polled w i (votesFor w success) ≡ polledAs success w i
+pub polled-as : (w : List ℕ) → Good (settingIn w) → (i : ℕ) (success : Bool) → polled w i (votesFor w success) ≡ polledBy success w i
 unfolding polled
-polled-as w good i success = ap (λ t. cond t (succeeded w i) (failed w i)) (votes-decide w good success)
+polled-as w good i success = ap (λ t. polledBy t w i) (votes-decide w good success)
 
 pub repoll-taken : (q : DayPoll) (w : List ℕ) → isTaken (repollBy testOf q w .answer) ≡ true → Repolling q w (repollBy testOf q w .words)
 unfolding pollCall
@@ -103,18 +97,13 @@ chit false = refl
 
 module _ (q : DayPoll) (w : List ℕ) (ledger : Ledger w) (able : Pollable w (q .booking)) where
   abbrev after : List ℕ
-  after = polledAs (q .success) w (q .booking)
+  after = polledBy (q .success) w (q .booking)
 
   after-noted : Noted w after (q .booking) (cond (q .success) 2 1)
-  after-noted = go (q .success)
-    where
-      go : (t : Bool) → Noted w (polledAs t w (q .booking)) (q .booking) (cond t 2 1)
-      go true = succeeded-Noted w (q .booking) ledger (able .below)
-      go false = failed-Noted w (q .booking) ledger (able .below)
+  after-noted = polledBy-Noted w (q .booking) (q .success) ledger able
 
   after-ledger : Ledger after
-  after-ledger =
-      subst Ledger (polled-as w (ledger .sound .setting) (q .booking) (q .success)) (polled-ledger w (q .booking) (votesFor w (q .success)) ledger able)
+  after-ledger = polledBy-ledger w (q .booking) (q .success) ledger able
 
   bookings-listed : from (bookingAt after) 1 (bookings after - 1) ≡ from (bookingAt w) 1 (bookings w - 1)
   bookings-listed =
@@ -126,7 +115,7 @@ module _ (q : DayPoll) (w : List ℕ) (ledger : Ledger w) (able : Pollable w (q 
   earlier-kept i h d =
       let other : i ≢ q .booking = λ e. d (ap (ordinalOf w) e ∙ polled-ordinal w (q .booking) (ledger .sound) able) in
       let within = booking-lt w (ledger .sound) i h in
-      (after-noted .other i ordinalField within (omega arith) (omega arith) other, after-noted .other i stateField within (omega arith) (omega arith) other)
+      (after-noted .other i ordinalField within (omega arith) (omega arith) (omega arith) other, after-noted .other i stateField within (omega arith) (omega arith) (omega arith) other)
 
   holder-new : holder after (1 + polls w) ≡ q .booking
   holder-new =

@@ -59,7 +59,7 @@ use Rattle.promises.proofs.Repolled.{votes-decide, polled-as, repoll-ta
 use Rattle.promises.proofs.BookedWords.{bookings-booked, polls-booked, confidenceOf-booked-same}
 use Rattle.promises.proofs.BookedRecords.{confidenceOf-booked-old}
 use Rattle.promises.proofs.Booked.{booked-ledger, booked-grown, booked-led}
-use Rattle.promises.proofs.Polled.{polled-ledger, polled-grown, polled-led, bookings-polled, polls-polled, confidence-succeeded, confidence-failed}
+use Rattle.promises.proofs.Polled.{polled-ledger, polled-grown, polled-led, bookings-polled, polls-polled, confidence-success, confidence-failure}
 use Rattle.promises.proofs.Grown.{
   Within,
   empty,
@@ -152,14 +152,6 @@ module _ (w : List ℕ) (h : History) (right : Right w h) (i : ℕ) (votes : Lis
   abbrev same : Grown w v
   same = polled-grown w i votes (right .ledger) able
 
-  success-confidence : isSuccess w votes ≡ true → (j : ℕ) → j < bookings w → confidenceOf v j ≡ confidenceOf w j + bit (isMember (ancestry w i) j)
-  unfolding polled
-  success-confidence e j l = rw e (confidence-succeeded w i j (right .ledger) l (able .below))
-
-  failure-confidence : isSuccess w votes ≡ false → (j : ℕ) → j < bookings w → confidenceOf v j ≡ confidenceOf w j
-  unfolding polled
-  failure-confidence e j l = rw e (confidence-failed w i j)
-
   -- the earlier polls are counted as before
   earlier : (j : ℕ) → j < bookings w → Counted v j (h .successes) (confidenceOf w j)
   earlier j l = counted-grown w v (right .ledger) same (right .below) (right .counted j l)
@@ -179,22 +171,22 @@ module _ (w : List ℕ) (h : History) (right : Right w h) (i : ℕ) (votes : Lis
   polled-counted : (b : Bool) → isSuccess w votes ≡ b → (j : ℕ) → j < bookings v → Counted v j (withPoll b i h .successes) (confidenceOf v j)
   polled-counted true e j l =
       let m : j < bookings w = omega (arith, bookings-polled w i votes (right .ledger) able) in
-      rw (success-confidence e j m) (counted-one (isMember (ancestry w i) j) j refl m)
+      rw (confidence-success w i votes (right .ledger) able e j m) (counted-one (isMember (ancestry w i) j) j refl m)
   polled-counted false e j l =
       let m : j < bookings w = omega (arith, bookings-polled w i votes (right .ledger) able) in
-      rw (failure-confidence e j m) (earlier j m)
+      rw (confidence-failure w i votes (right .ledger) able e j) (earlier j m)
 
   polled-summed : (b : Bool) → isSuccess w votes ≡ b → total (confidenceOf v) (bookings v) ≡ sizes v (withPoll b i h .successes)
   unfolding sizes sizeOf
   polled-summed true e =
       ap (total (confidenceOf v)) (bookings-polled w i votes (right .ledger) able)
-      ∙ total-same (confidenceOf v) (λ j. confidenceOf w j + bit (isMember (ancestry w i) j)) (bookings w) (success-confidence e)
+      ∙ total-same (confidenceOf v) (λ j. confidenceOf w j + bit (isMember (ancestry w i) j)) (bookings w) (confidence-success w i votes (right .ledger) able e)
       ∙ total-plus (confidenceOf w) (λ j. bit (isMember (ancestry w i) j)) (bookings w)
       ∙ add-comm (total (confidenceOf w) (bookings w)) (count (isMember (ancestry w i)) (bookings w))
       ∙ ap₂ _+_ (sym (size-grown w v (right .ledger) same i (able .below))) (right .summed ∙ sym (sizes-grown w v (right .ledger) same (right .below)))
   polled-summed false e =
       ap (total (confidenceOf v)) (bookings-polled w i votes (right .ledger) able)
-      ∙ total-same (confidenceOf v) (confidenceOf w) (bookings w) (failure-confidence e)
+      ∙ total-same (confidenceOf v) (confidenceOf w) (bookings w) (λ j l. confidence-failure w i votes (right .ledger) able e j)
       ∙ right .summed ∙ sym (sizes-grown w v (right .ledger) same (right .below))
 
   polled-below : (b : Bool) → Within (bookings v) (withPoll b i h .successes)

@@ -1,7 +1,7 @@
 -- The stages of a day's replay: what its opening, its first j bookings and its first q polls leave, where they are taken. Each stage is a ledger that holds the
 -- day so far, and the next is made by one call; in the end the words hold the day. Assumes nothing.
 use mathlib.Core.Path.{_≡_, refl, sym, ap, subst, _∙_}
-use mathlib.Core.Bool.{true, false, cond, true≢false}
+use mathlib.Core.Bool.{true, false, true≢false}
 use mathlib.Core.List.{List, [], _∷_}
 use Prim.Native.Nat.{ℕ, zero, suc, _+_, _-_, _<_, _≤_}
 use native.Mathlib.Numerals.{add-one}
@@ -15,11 +15,11 @@ use Rattle.terms.specs.declared.answer.Answer.{Answer}
 use Rattle.terms.specs.declared.answer.Answer.the-variants.{Taken, Refused}
 use Rattle.terms.specs.Answers.{Outcome, isTaken}
 use Rattle.terms.specs.Setting.{Good, settingOf}
-use Rattle.rules.specs.Layout.{size, mostBookings, mostParents, slots, pollsField, bookings, polls}
+use Rattle.rules.specs.Layout.{size, mostBookings, mostParents, slots, pollsField, bookings, polls, stateOf}
 use Rattle.rules.specs.Sound.{Ledger}
 use Rattle.rules.specs.Open.{opened}
 use Rattle.rules.specs.Book.{bookedWith}
-use Rattle.rules.specs.Poll.{succeeded, failed}
+use Rattle.rules.specs.Poll.{polledBy}
 use Rattle.rules.specs.Calls.{testOf, openCall}
 use Rattle.rule_laws.proofs.Opened.{header-opened, bookings-opened, opened-ledger}
 use Rattle.day_file.specs.Day.{DayBooking, DayPoll, Day, bookingAt, holder, pollOf, dayOf, bookingIn, pollIn, polledIn, succeededIn}
@@ -271,11 +271,12 @@ module _ (d : Day) (taken : isTaken (replay d .answer) ≡ true) where
 
   pub stage-polled : (q : ℕ) → q < length (d .polls)
       → (polledIn (d .polls) q < bookings (repolled d q .words))
+      × (stateOf (repolled d q .words) (polledIn (d .polls) q) ≡ 0)
       × (repolled d (q + 1) .words
-      ≡ cond (succeededIn (d .polls) q) (succeeded (repolled d q .words) (polledIn (d .polls) q)) (failed (repolled d q .words) (polledIn (d .polls) q)))
+      ≡ polledBy (succeededIn (d .polls) q) (repolled d q .words) (polledIn (d .polls) q))
   stage-polled q h =
       let r = repolled-by d q h (stage-repolled (suc q)) in
-      (r .able .below, ap (λ n. repolled d n .words) (add-one q) ∙ r .words)
+      (r .able .below, r .able .waiting, ap (λ n. repolled d n .words) (add-one q) ∙ r .words)
 
   pub stage-ends : repolled d (length (d .polls)) .words ≡ replay d .words
   stage-ends = ap (λ o. o .words) (repolled-end d)

@@ -6,25 +6,12 @@ use Prim.Native.Nat.{ℕ, _+_, _<_, _≤_}
 use native.Mathlib.Omega.{arith}
 use Rattle.loops.specs.Total.{bit}
 use Rattle.loops.proofs.Total.{bit-le}
-use Rattle.rules.specs.Layout.{
-  entry,
-  bookings,
-  slotField,
-  confidenceField,
-  preferredField,
-  lastField,
-  counterField,
-  heldField,
-  slotOf,
-  confidenceOf,
-  preferredIn,
-  lastIn,
-}
+use Rattle.rules.specs.Layout.{entry, bookings, slotField, confidenceField, preferredField, lastField, counterField, heldField, slotOf, confidenceOf, preferredIn, lastIn, markField}
 use Rattle.rules.specs.Ancestry.{ancestry, isMember}
 use Rattle.rules.specs.Sound.{Ledger, BookingOf}
 use Rattle.rules.specs.Poll.{noted, raised, succeeded}
 use Rattle.rule_laws.proofs.Slots.{slotOf-absent, booking-lt, slotOf-lt, preferredIn-lt}
-use Rattle.rule_laws.proofs.Noted.{length-noted, confidence-noted, entry-noted-kept}
+use Rattle.rule_laws.proofs.Noted.{length-noted, field-noted-beside, confidence-noted, entry-noted-kept}
 use Rattle.rule_laws.proofs.Raised.{
   length-raised,
   header-raised-kept,
@@ -59,7 +46,7 @@ module _ (w : List ℕ) (i : ℕ) (ledger : Ledger w) (below : i < bookings w) w
       Noted-kept (raisedWords w i) (booking-lt w (ledger .sound) i below) (noted-Noted w i 2 (ledger .whole) (booking-lt w (ledger .sound) i below))
       (length-raised (ancestry w i) (bookings w) (noted w i 2))
       (header-raised-kept (ancestry w i) (bookings w) (noted w i 2))
-      (λ j g u. field-raised-beside (ancestry w i) (bookings w) (noted w i 2) j g)
+      (λ j g u k c m. field-raised-beside (ancestry w i) (bookings w) (noted w i 2) j g k c)
 
   raised-confidence : (j : ℕ) → j < bookings w → confidenceOf (raisedWords w i) j ≡ confidenceOf w j + bit (isMember (ancestry w i) j)
   raised-confidence j h =
@@ -88,7 +75,7 @@ module _ (w : List ℕ) (i : ℕ) (ledger : Ledger w) (below : i < bookings w) w
       Noted-kept (succeeded w i) (booking-lt w (ledger .sound) i below) raised-Noted
       (length-settled (ancestry w i) (bookings w) (raisedWords w i))
       (header-settled-kept (ancestry w i) (bookings w) (raisedWords w i))
-      (λ j g u k d. field-settled-kept (ancestry w i) (bookings w) (raisedWords w i) j g u k)
+      (λ j g u k c m. field-settled-kept (ancestry w i) (bookings w) (raisedWords w i) j g u k)
 
   succeeded-confidence : (j : ℕ) → j < bookings w → confidenceOf (succeeded w i) j ≡ confidenceOf w j + bit (isMember (ancestry w i) j)
   succeeded-confidence j h =
@@ -119,6 +106,10 @@ module _ (w : List ℕ) (i : ℕ) (ledger : Ledger w) (below : i < bookings w) w
         rw (← raised-entry s lastField)
         (succeeded-among s (lastIn (raisedWords w i) s) (lastIn (succeeded w i) s)
         (last-settled-among (ancestry w i) (raisedWords w i) (bookings w) raised-SlotsFit s));
+    mark = λ j u.
+        field-settled-kept (ancestry w i) (bookings w) (raisedWords w i) j markField u (omega arith)
+        ∙ field-raised-beside (ancestry w i) (bookings w) (noted w i 2) j markField (omega arith) (omega arith)
+        ∙ field-noted-beside w i 2 j markField (omega arith) (omega arith) (omega arith);
     counter = λ s. omega (arith, counter-settled-le (ancestry w i) (raisedWords w i) (bookings w) raised-SlotsFit s, raised-entry s counterField);
   }
 

@@ -2,15 +2,14 @@
 use mathlib.Core.Path.{_≡_, refl, sym, ap, _∙_}
 use mathlib.Core.Bool.{Bool, true, false, true≢false}
 use mathlib.Core.List.{List}
-use mathlib.Core.Logic.{_↔_, _⊎_, inl, inr, ⊎-elim}
 use Prim.Native.Nat.{ℕ, zero, suc, _+_, _<_}
 use native.Mathlib.Numerals.{add-one}
 use native.Mathlib.Nat.{add-zero}
-use native.Mathlib.Omega.{arith}
 use lib.IntN.{ℤ, pos}
+use borrow.Author.Tests.{eq-eqb, eqb-true}
 use Rattle.loops.specs.Total.{bit, total, count}
 use Rattle.terms.specs.declared.answer.Answer.the-variants.{Taken}
-use Rattle.rules.specs.Layout.{bookings, nameOf, confidenceOf}
+use Rattle.rules.specs.Layout.{bookings, nameOf, confidenceOf, markOf}
 use Rattle.rules.specs.Ancestry.{ancestry, isMember}
 use Rattle.rules.specs.Readings.{queryOf, acceptedOf, leadOf, rivalsMost, sizeOf}
 use Rattle.rules.specs.Sound.{Ledger}
@@ -18,8 +17,6 @@ use Rattle.rules.specs.Calls.{readingCall}
 use Rattle.rule_laws.proofs.Lookup.{found-is}
 use Rattle.rule_laws.proofs.Tested.{reading-found}
 use Rattle.rule_laws.proofs.Ancestry.{members→Reaches, Reaches→members}
-use Rattle.rules.specs.AsRead.{FirstArm, SecondArm}
-use Rattle.rule_laws.proofs.Accepted.{accepted-is, accepted-genesis}
 use Rattle.rule_laws.proofs.Readings.{query-is, rivalsMost-is}
 use Rattle.promises.specs.Told.{Sized, nobody, counts, passes, Told, ReadingsTold}
 
@@ -33,15 +30,6 @@ module _ (w : List ℕ) (ledger : Ledger w) (i : ℕ) (below : i < bookings w) w
   other : (b : Bool) → (b ≡ true → ⊥) → Taken (pos (bit b)) ≡ Taken (pos 0)
   other true n = absurd (n refl)
   other false n = refl
-
-  accepted-both : (acceptedOf w i ≡ true) ↔ ((i ≡ 0) ⊎ FirstArm w i ⊎ SecondArm w i)
-  accepted-both = go i below
-    where
-      go : (k : ℕ) → k < bookings w → (acceptedOf w k ≡ true) ↔ ((k ≡ 0) ⊎ FirstArm w k ⊎ SecondArm w k)
-      go zero l = (λ e. inl refl, λ u. accepted-genesis w)
-      go (suc k) l =
-          let law = accepted-is w (ledger .sound) (suc k) l (omega arith) in
-          (λ e. inr (law .0 e), ⊎-elim (λ z. absurd (omega arith)) (law .1))
 
   sized : (n : ℕ) → Sized w i n (count (isMember (ancestry w i)) n)
   unfolding total
@@ -60,8 +48,8 @@ module _ (w : List ℕ) (ledger : Ledger w) (i : ℕ) (below : i < bookings w) w
       no = λ n. told (λ k. pos (bit (queryOf w k))) ∙ other (queryOf w i) (λ e. n (query-is w (ledger .sound) i below .0 e));
     };
     accepted = record {
-      yes = λ c. told (λ k. pos (bit (acceptedOf w k))) ∙ one (acceptedOf w i) (accepted-both .1 c);
-      no = λ n. told (λ k. pos (bit (acceptedOf w k))) ∙ other (acceptedOf w i) (λ e. n (accepted-both .0 e));
+      yes = λ c. told (λ k. pos (bit (acceptedOf w k))) ∙ one (acceptedOf w i) (eq-eqb (markOf w i) 1 c);
+      no = λ n. told (λ k. pos (bit (acceptedOf w k))) ∙ other (acceptedOf w i) (λ e. n (eqb-true (markOf w i) 1 e));
     };
     lead = (rivalsMost w i, rivalsMost-is w i, told (leadOf w));
     confidence = told (λ k. pos (confidenceOf w k));

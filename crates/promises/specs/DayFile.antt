@@ -68,6 +68,6 @@ pub record SameDay (w u : List ℕ) : Type 0 where
 unfoldable pub SameFile : Type 0
 SameFile = (w u : List ℕ) → Ledger w → Ledger u → Names64 w → Names64 u → dayFile w ≡ dayFile u → SameDay w u
 
--- and it tells nothing else: whatever confidences, preferred and last bookings and counters are, the same day gives the same bytes
+-- and it tells nothing else: whatever confidences, marks, preferred and last bookings and counters are, the same day gives the same bytes
 unfoldable pub SameDayFile : Type 0
 SameDayFile = (w u : List ℕ) → Ledger w → SameDay w u → dayFile w ≡ dayFile u

@@ -31,7 +31,7 @@ outcomeOf (Ask what name) w = outcome (readCall what w name) w
 outcomeOf (WriteFirst buffer) w = outcome (writeFirstCall w buffer .answer) (writeFirstCall w buffer .words)
 outcomeOf (ReadFirst file) w = readFirstCall w file
 
--- whether the call makes a new ledger of whatever the words were: opening does, and reading a file
+-- whether the call makes a new ledger of whatever the words were if it is taken: opening does, and reading a file
 abbrev pub opens : Call → Bool
 opens (Open s) = true
 opens (Book name slot parents) = false
@@ -118,7 +118,7 @@ unfoldable pub AllTaken : List Call → List ℕ → Type 0
 AllTaken [] w = Unit
 AllTaken (c ∷ cs) w = (isTaken (outcomeOf c w .answer) ≡ true) × AllTaken cs (outcomeOf c w .words)
 
--- none of them makes a new ledger
+-- none of them opens or reads
 unfoldable pub NoneOpens : List Call → Type 0
 NoneOpens [] = Unit
 NoneOpens (c ∷ cs) = (opens c ≡ false) × NoneOpens cs

@@ -1,6 +1,6 @@
--- The test of one booking and the statement agree: slot, parents, state and ordinal; and what a value that is new among the lower numbers says.
+-- The test of one booking and the statement agree: slot, parents, state, ordinal and mark; and what a value that is new among the lower numbers says.
 use mathlib.Core.Path.{_≡_, sym, ap, subst, _∙_}
-use mathlib.Core.Bool.{Bool, true, not, _&&_, _||_, cond}
+use mathlib.Core.Bool.{Bool, true, true≢false, not, _&&_, _||_, cond}
 use mathlib.Core.List.{List, [], _∷_}
 use mathlib.Core.Logic.{_≢_, _↔_, ⊎-elim}
 use Prim.Native.Nat.{ℕ, zero, suc, _≤_, _<_}
@@ -12,10 +12,10 @@ use lib.Dec.{ltb, leb, eqb}
 use borrow.Author.Tests.{leb-true, ltb-true, le-leb, lt-ltb, eqb-true, eqb-false, eq-eqb, ne-eqb, not-true, not-false}
 use Rattle.loops.specs.Search.{any}
 use Rattle.loops.proofs.Search.{none→, →none}
-use Rattle.rules.specs.IsSound.{nameNew, parentGood, parentsGood, ordinalNew, stateGood, bookingGood}
+use Rattle.rules.specs.IsSound.{nameNew, parentGood, parentsGood, ordinalNew, stateGood, markGood, bookingGood}
 use Rattle.rules.specs.Sound.{Booking}
-use Rattle.rules.specs.Layout.{slots, mostParents, none, polls, slotOf, parentOf, stateOf, ordinalOf}
-use Rattle.loops.proofs.Bools.{row-at, row-by, and-left, and-right, and-both, or-right, or-else, cond-agree, agree-cond}
+use Rattle.rules.specs.Layout.{slots, mostParents, none, polls, slotOf, parentOf, stateOf, ordinalOf, markOf, isMarked}
+use Rattle.loops.proofs.Bools.{row-at, row-by, and-left, and-right, and-both, refuted, or-right, or-else, cond-agree, agree-cond}
 
 -- ---- a value that no lower number has
 
@@ -156,11 +156,39 @@ Booking→stateGood w i b most =
     row-by (stateTests w i) (le-leb _ _ (b .stateKnown))
     (agree-cond _ _ (zero→agree (ordinalOf w i) (stateOf w i) (b .ordinalWaiting))) (le-leb _ _ most)
 
+-- ---- mark
+
+-- a lower record with a mark in the slot of i
+abbrev marksSlot : List ℕ → ℕ → ℕ → Bool
+marksSlot w i j = isMarked w j && eqb (slotOf w j) (slotOf w i)
+
+module _ (w : List ℕ) (i : ℕ) (e : markGood w i ≡ true) where
+  pub markGood→markKnown : markOf w i ≤ 1
+  unfolding markGood
+  markGood→markKnown = leb-true (markOf w i) 1 (and-left (leb (markOf w i) 1) _ e)
+
+  pub markGood→markNew : (j : ℕ) → j < i → markOf w i ≡ 1 → markOf w j ≡ 1 → slotOf w j ≢ slotOf w i
+  unfolding markGood
+  markGood→markNew j l mi mj same =
+      let none = or-right _ _ (and-right (leb (markOf w i) 1) _ e) (ap not (eq-eqb (markOf w i) 1 mi)) in
+      true≢false (sym (and-both _ _ (eq-eqb (markOf w j) 1 mj) (eq-eqb (slotOf w j) (slotOf w i) same)) ∙ none→ (marksSlot w i) i (not-true _ none) j l)
+
+pub →markGood : (w : List ℕ) (i : ℕ) → markOf w i ≤ 1
+    → ((j : ℕ) → j < i → markOf w i ≡ 1 → markOf w j ≡ 1 → slotOf w j ≢ slotOf w i)
+    → markGood w i ≡ true
+unfolding markGood
+→markGood w i known new =
+    and-both _ _ (le-leb _ _ known)
+    (or-else _ _ (λ t. ap not (→none (marksSlot w i) i (λ j l.
+    refuted (marksSlot w i j) (λ e.
+    new j l (eqb-true (markOf w i) 1 (not-false _ t)) (eqb-true (markOf w j) 1 (and-left _ _ e))
+    (eqb-true (slotOf w j) (slotOf w i) (and-right (isMarked w j) _ e)))))))
+
 -- ---- the whole row
 
 abbrev bookingTests : List ℕ → ℕ → List Bool
 bookingTests w i =
-    nameNew w i ∷ leb 1 (slotOf w i) ∷ ltb (slotOf w i) slots ∷ parentsGood w i ∷ stateGood w i ∷ ordinalNew w i ∷ []
+    nameNew w i ∷ leb 1 (slotOf w i) ∷ ltb (slotOf w i) slots ∷ parentsGood w i ∷ stateGood w i ∷ ordinalNew w i ∷ markGood w i ∷ []
 
 module _ (w : List ℕ) (i : ℕ) (e : bookingGood w i ≡ true) where
   booking-at : (k : ℕ) → getD (bookingTests w i) k true ≡ true
@@ -176,6 +204,9 @@ module _ (w : List ℕ) (i : ℕ) (e : bookingGood w i ≡ true) where
   pub bookingGood→ordinalNew : ordinalNew w i ≡ true
   bookingGood→ordinalNew = booking-at 5
 
+  pub bookingGood→markGood : markGood w i ≡ true
+  bookingGood→markGood = booking-at 6
+
   pub bookingGood→Booking : Booking w i
   bookingGood→Booking = record {
     slotLeast = leb-true 1 (slotOf w i) (booking-at 1);
@@ -189,9 +220,9 @@ module _ (w : List ℕ) (i : ℕ) (e : bookingGood w i ≡ true) where
   }
 
 pub Booking→bookingGood : (w : List ℕ) (i : ℕ) → Booking w i
-    → ordinalOf w i ≤ polls w → nameNew w i ≡ true → ordinalNew w i ≡ true
+    → ordinalOf w i ≤ polls w → nameNew w i ≡ true → ordinalNew w i ≡ true → markGood w i ≡ true
     → bookingGood w i ≡ true
 unfolding bookingGood
-Booking→bookingGood w i b most name ordinal =
+Booking→bookingGood w i b most name ordinal mark =
     row-by (bookingTests w i) name (le-leb _ _ (b .slotLeast)) (lt-ltb _ _ (b .slotMost)) (Booking→parentsGood w i b)
-    (Booking→stateGood w i b most) ordinal
+    (Booking→stateGood w i b most) ordinal mark

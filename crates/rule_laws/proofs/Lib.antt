@@ -9,7 +9,10 @@ pub mod Sound
 pub mod Slots
 pub mod Opened
 pub mod Ancestry
-pub mod Accepted
+pub mod Unchanged
+pub mod Marked
+pub mod MarkedSound
+pub mod MarkedEarned
 pub mod Readings
 pub mod Noted
 pub mod Raised

@@ -36,10 +36,12 @@ use Rattle.rules.specs.Layout.{
   stateField,
   confidenceField,
   ordinalField,
+  markField,
   nameOf,
   parentOf,
   confidenceOf,
   ordinalOf,
+  markOf,
   preferredField,
   lastField,
   counterField,
@@ -159,6 +161,9 @@ module _ (s : Setting) where
   ordinal-zero : (i : ℕ) → i < bookings (opened s) → ordinalOf (opened s) i ≡ 0
   ordinal-zero i u = rw (genesis-only i u) (genesis-opened s ordinalField (omega arith))
 
+  mark-one : (i : ℕ) → i < bookings (opened s) → markOf (opened s) i ≡ 1
+  mark-one i u = rw (genesis-only i u) (genesis-opened s markField (omega arith))
+
   pub Sound-opened : Good s → Sound (opened s)
   Sound-opened good =
       let one : bookings (opened s) ≡ 1 = bookings-opened s in
@@ -175,11 +180,14 @@ module _ (s : Setting) where
         genesisParents = genesis-parents;
         genesisState = genesis-opened s stateField (omega arith);
         genesisOrdinal = genesis-opened s ordinalField (omega arith);
+        genesisMark = genesis-opened s markField (omega arith);
         nameAlone = λ i j u v q. absurd (omega arith);
         booking = λ i l u. absurd (omega arith);
         ordinalMost = λ i u. omega (arith, ordinal-zero i u);
         ordinalHeld = λ o l u. absurd (omega arith);
         ordinalAlone = λ i j u v q. absurd (omega arith);
+        markKnown = λ i u. omega (arith, mark-one i u);
+        markAlone = λ i j u v q. absurd (omega arith);
         restZero = λ i f l u v. rest-opened s i f (omega arith) u v;
         emptyEntry = empty-entry;
         heldEntry = held-entry;

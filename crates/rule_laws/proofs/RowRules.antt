@@ -45,6 +45,7 @@ use Rattle.rules.specs.Layout.{
   stateOf,
   confidenceOf,
   ordinalOf,
+  markOf,
 }
 use Rattle.loops.proofs.Bools.{row-at, row-by, and-left, and-right, and-both, or-right, or-else}
 use Rattle.rule_laws.proofs.Good.{isGood→Good, Good→isGood}
@@ -58,6 +59,10 @@ use Rattle.rule_laws.proofs.Bookings.{
   bookingGood→ordinalNew,
   bookingGood→Booking,
   Booking→bookingGood,
+  bookingGood→markGood,
+  markGood→markKnown,
+  markGood→markNew,
+  →markGood,
 }
 use Rattle.rule_laws.proofs.Entries.{slotGood→EmptyEntry, slotGood→HeldEntry, slotGood→counterMost, →slotGood}
 
@@ -93,7 +98,7 @@ Rules→headerGood w rules =
 abbrev genesisTests : List ℕ → List Bool
 genesisTests w =
     eqb (nameOf w 0) 0 ∷ eqb (slotOf w 0) 0 ∷ eqb (parentOf w 0 0) none ∷ eqb (parentOf w 0 1) none ∷ eqb (parentOf w 0 2) none
-    ∷ eqb (parentOf w 0 3) none ∷ eqb (stateOf w 0) 1 ∷ eqb (ordinalOf w 0) 0
+    ∷ eqb (parentOf w 0 3) none ∷ eqb (stateOf w 0) 1 ∷ eqb (ordinalOf w 0) 0 ∷ eqb (markOf w 0) 1
     ∷ []
 
 genesisGood→Genesis : (w : List ℕ) → genesisGood w ≡ true → Genesis w
@@ -108,6 +113,7 @@ genesisGood→Genesis w e =
           (eqb-true (parentOf w 0 2) none (passes 4)) (eqb-true (parentOf w 0 3) none (passes 5));
       state = eqb-true (stateOf w 0) 1 (passes 6);
       ordinal = eqb-true (ordinalOf w 0) 0 (passes 7);
+      mark = eqb-true (markOf w 0) 1 (passes 8);
     }
 
 Genesis→genesisGood : (w : List ℕ) → Genesis w → genesisGood w ≡ true
@@ -115,7 +121,7 @@ unfolding genesisGood
 Genesis→genesisGood w g =
     let unused : (a : ℕ) → a < mostParents → eqb (parentOf w 0 a) none ≡ true = λ a u. eq-eqb _ _ (g .parents a u) in
     row-by (genesisTests w) (eq-eqb _ _ (g .name)) (eq-eqb _ _ (g .slot)) (unused 0 (omega arith)) (unused 1 (omega arith))
-    (unused 2 (omega arith)) (unused 3 (omega arith)) (eq-eqb _ _ (g .state)) (eq-eqb _ _ (g .ordinal))
+    (unused 2 (omega arith)) (unused 3 (omega arith)) (eq-eqb _ _ (g .state)) (eq-eqb _ _ (g .ordinal)) (eq-eqb _ _ (g .mark))
 
 -- ---- a record below n
 
@@ -128,6 +134,8 @@ recordGood→Rules w zero e =
       nameNew = λ j l. absurd (omega arith);
       ordinalMost = omega (arith, genesis .ordinal);
       ordinalNew = λ j l. absurd (omega arith);
+      markKnown = omega (arith, genesis .mark);
+      markNew = λ j l. absurd (omega arith);
       confidenceMost = leb-true (confidenceOf w 0) (chits w) (and-right (genesisGood w) _ e);
     }
 recordGood→Rules w (suc i) e =
@@ -139,6 +147,8 @@ recordGood→Rules w (suc i) e =
       nameNew = new→differs (nameOf w) (suc i) (bookingGood→nameNew w (suc i) good);
       ordinalMost = stateGood→ordinalMost w (suc i) (bookingGood→stateGood w (suc i) good);
       ordinalNew = λ j l q. new→differs (ordinalOf w) (suc i) (or-right _ _ (bookingGood→ordinalNew w (suc i) good) (ne-eqb (ordinalOf w (suc i)) 0 q)) j l;
+      markKnown = markGood→markKnown w (suc i) (bookingGood→markGood w (suc i) good);
+      markNew = markGood→markNew w (suc i) (bookingGood→markGood w (suc i) good);
       confidenceMost = leb-true (confidenceOf w (suc i)) (chits w) (and-right (bookingGood w (suc i)) _ both);
     }
 
@@ -148,7 +158,7 @@ Rules→recordGood w (suc i) rules =
     let new = differs→new (nameOf w) (suc i) (rules .nameNew) in
     let once = or-else _ _ (λ t. differs→new (ordinalOf w) (suc i) (λ j l. rules .ordinalNew j l (eqb-false _ _ t))) in
     rw (ne-eqb (suc i) 0 (omega arith))
-    (and-both _ _ (Booking→bookingGood w (suc i) (rules .booking (omega arith)) (rules .ordinalMost) new once) (le-leb _ _ (rules .confidenceMost)))
+    (and-both _ _ (Booking→bookingGood w (suc i) (rules .booking (omega arith)) (rules .ordinalMost) new once (→markGood w (suc i) (rules .markKnown) (rules .markNew))) (le-leb _ _ (rules .confidenceMost)))
 
 -- ---- a row from n on
 

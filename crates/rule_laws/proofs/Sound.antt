@@ -11,7 +11,7 @@ use Rattle.loops.proofs.Search.{all→, →all}
 use Rattle.rules.specs.IsSound.{headerGood, recordRow, recordRows, slotGood, isSound}
 use Rattle.rules.specs.Sound.{Sound}
 use Rattle.rules.specs.RowRules.{HeaderRules, Genesis, RulesBelow, RulesFrom, RecordRules, SlotRules}
-use Rattle.rules.specs.Layout.{slots, bookings, nameOf, ordinalOf}
+use Rattle.rules.specs.Layout.{slots, bookings, nameOf, slotOf, ordinalOf, markOf}
 use Rattle.loops.proofs.Bools.{row-at, row-by}
 use Rattle.rule_laws.proofs.Bookings.{either-order}
 use Rattle.rule_laws.proofs.RowRules.{
@@ -54,6 +54,9 @@ module _ (w : List ℕ) (e : isSound w ≡ true) where
   ordinal-new : (i : ℕ) → i < bookings w → (j : ℕ) → j < i → ordinalOf w j ≢ 0 → ordinalOf w j ≢ ordinalOf w i
   ordinal-new i u j l q r = rules-below i u .ordinalNew j l (λ z. q (r ∙ z)) r
 
+  mark-new : (i : ℕ) → i < bookings w → (j : ℕ) → j < i → markOf w j ≡ 1 → markOf w i ≡ 1 → slotOf w j ≢ slotOf w i
+  mark-new i u j l mj mi = rules-below i u .markNew j l mi mj
+
   pub isSound→Sound : Sound w
   isSound→Sound = record {
     bookingsLeast = header-rules .bookingsLeast;
@@ -67,11 +70,14 @@ module _ (w : List ℕ) (e : isSound w ≡ true) where
     genesisParents = genesis-rules .parents;
     genesisState = genesis-rules .state;
     genesisOrdinal = genesis-rules .ordinal;
+    genesisMark = genesis-rules .mark;
     nameAlone = either-order (bookings w) (λ i j. nameOf w i ≢ nameOf w j) (λ i j. Ne·symm) (λ i u. rules-below i u .nameNew);
     booking = λ i l u. rules-below i u .booking l;
     ordinalMost = λ i u. rules-below i u .ordinalMost;
     ordinalHeld = rules-from (bookings w) (omega arith) (omega (arith, header-rules .bookingsMost)) .ordinalHeld (omega arith);
     ordinalAlone = either-order (bookings w) (λ i j. ordinalOf w i ≢ 0 → ordinalOf w i ≢ ordinalOf w j) (λ i j r q d. r (λ z. q (d ∙ z)) (sym d)) ordinal-new;
+    markKnown = λ i u. rules-below i u .markKnown;
+    markAlone = either-order (bookings w) (λ i j. markOf w i ≡ 1 → markOf w j ≡ 1 → slotOf w i ≢ slotOf w j) (λ i j r mj mi same. r mi mj (sym same)) mark-new;
     restZero = λ i f l u v. rules-from i l (omega arith) .zero u f v;
     emptyEntry = λ s u. slot-rules s u .empty;
     heldEntry = λ s u. slot-rules s u .held;
@@ -104,6 +110,7 @@ module _ (w : List ℕ) (sound : Sound w) where
     parents = sound .genesisParents;
     state = sound .genesisState;
     ordinal = sound .genesisOrdinal;
+    mark = sound .genesisMark;
   }
 
   pub record-kept : (i : ℕ) → RecordRules w i
@@ -114,6 +121,8 @@ module _ (w : List ℕ) (sound : Sound w) where
       nameNew = λ j l. sound .nameAlone j i (omega arith) u (omega arith);
       ordinalMost = sound .ordinalMost i u;
       ordinalNew = λ j l q r. sound .ordinalAlone i j u (omega arith) (omega arith) q (sym r);
+      markKnown = sound .markKnown i u;
+      markNew = λ j l mi mj. sound .markAlone j i (omega arith) u (omega arith) mj mi;
       confidenceMost = sound .confidenceMost i u;
     };
     from = λ l. record { zero = λ u f v. sound .restZero i f l u v; ordinalHeld = λ here. sound .ordinalHeld };

@@ -1,4 +1,4 @@
--- Document 01, "Cases on each side": P1 to P12, and those of CR 1, one table under one statement, computed from the definitions on whole workspaces.
+-- Document 01, "Cases on each side": P1 to P12, and those of CR 1 and CR 5, one table under one statement, computed from the definitions on whole workspaces.
 -- Every step is a call with its refusals, as a user would make it, and every reading the number and the value that come back: a refusal is not taken for a 0.
 use mathlib.Core.Path.{_≡_, sym, ap, ap₂, _∙_}
 use mathlib.Core.List.{List, [], _∷_, _++_}
@@ -35,6 +35,7 @@ use Rattle.rules.specs.Layout.{
   spareField,
   slotField,
   confidenceField,
+  markField,
   counterField,
   heldField,
   lastField,
@@ -42,11 +43,12 @@ use Rattle.rules.specs.Layout.{
 }
 use Rattle.terms.specs.Votes.{voteOf}
 use Rattle.rules.specs.Ancestry.{ancestry, sweep, spread}
-use Rattle.rules.specs.IsSound.{headerGood, genesisGood, bookingGood, parentsGood, stateGood, chits, bookingsOf}
+use Rattle.rules.specs.IsSound.{headerGood, genesisGood, bookingGood, parentsGood, stateGood, markGood, chits, bookingsOf}
 use Rattle.rules.specs.Open.{opened, openWord}
 use Rattle.rules.specs.Book.{lookUp, hasUnknown, hasTwice, entered, booked}
 use Rattle.rules.specs.Poll.{polled, raiseOne, prefer, follow, settleOne}
-use Rattle.rules.specs.Readings.{queryOf, acceptOne, acceptedOf, rivalsMost, leadOf, sizeOf}
+use Rattle.rules.specs.Marks.{meetsRule, anotherMarked, markOne}
+use Rattle.rules.specs.Readings.{queryOf, rivalsMost, leadOf, sizeOf}
 use Rattle.rules.specs.Calls.{openCall, bookBy, pollBy, readBy, bookCall, pollCall, readCall}
 use Rattle.rules.proofs.Same.{sameNumbers, Got, got, Passes, passes, sameTable, same-table}
 use Rattle.rules.proofs.Walk.{badRecordWalked, badSlotWalked, testWalked, test-walked-is}
@@ -119,8 +121,8 @@ diamond c =
     -- where the words stand at the end: how many, the header, record 4 and slot entry 7
     ∷ (is (length poll1) ∷ [])
     ∷ wordsAt poll1 0 8
-    ∷ wordsAt poll1 56 12
-    ∷ wordsAt poll1 6180 4
+    ∷ wordsAt poll1 60 13
+    ∷ wordsAt poll1 6692 4
     ∷ []
 
 unfoldable pub diamondSays : List (List Got)
@@ -134,9 +136,9 @@ diamondSays =
     ∷ (is 8 ∷ is 2 ∷ is 4 ∷ is 2 ∷ [])
     ∷ (is 4 ∷ is 1 ∷ [])
     ∷ (is 0 ∷ is 1 ∷ [])
-    ∷ (is 7176 ∷ [])
+    ∷ (is 7688 ∷ [])
     ∷ (is 5 ∷ is 3 ∷ is 2 ∷ is 1 ∷ is 2 ∷ is 4 ∷ is 0 ∷ is 0 ∷ [])
-    ∷ (is 0 ∷ is 0 ∷ is 0 ∷ is 4 ∷ is 10 ∷ is 1 ∷ is 2 ∷ is 65535 ∷ is 65535 ∷ is 2 ∷ is 1 ∷ is 3 ∷ [])
+    ∷ (is 0 ∷ is 0 ∷ is 0 ∷ is 4 ∷ is 10 ∷ is 1 ∷ is 2 ∷ is 65535 ∷ is 65535 ∷ is 2 ∷ is 1 ∷ is 3 ∷ is 0 ∷ [])
     ∷ (is 2 ∷ is 1 ∷ is 0 ∷ is 2 ∷ [])
     ∷ []
 
@@ -168,16 +170,21 @@ unfoldable pub rivals : CallsMade → List (List Got)
 rivals c =
     let booked = c .book (c .book (c .book (openCall unopened (settingOf 1 1 1 1) .words) 1 7 (0 ∷ []) .words) 2 8 (1 ∷ []) .words) 3 7 (0 ∷ []) .words in
     let poll2 = c .poll (c .poll booked 1 (1 ∷ []) .words) 2 (1 ∷ []) .words in
-    let parted = withEntry poll2 7 lastField 3 in
+    let unmarked = withField poll2 1 markField 0 in
+    let parted = withEntry unmarked 7 lastField 3 in
+    let failed = c .poll unmarked 3 (0 ∷ []) .words in
+    let failedParted = c .poll parted 3 (0 ∷ []) .words in
     let poll3 = c .poll poll2 3 (1 ∷ []) .words in
     let poll4 = c .poll (c .book poll3 4 9 (1 ∷ 3 ∷ []) .words) 4 (1 ∷ []) .words in
     -- before any poll, query of 1 and 3
     (got (c .ask Query booked 1) ∷ got (c .ask Query booked 3) ∷ [])
     -- after the polls of 1 and 2: the slot's four words, and accepted of 1 and 3
     ∷ (is (preferredIn poll2 7) ∷ is (lastIn poll2 7) ∷ is (counterIn poll2 7) ∷ is (heldIn poll2 7) ∷ got (c .ask Accepted poll2 1) ∷ got (c .ask Accepted poll2 3) ∷ [])
-    -- were 3 the last one by that counter: neither rival is both preferred and last, and neither is accepted
-    ∷ (got (c .ask Accepted parted 1) ∷ got (c .ask Accepted parted 3) ∷ [])
-    -- the poll of 3 makes it last, with a counter of 0
+    -- had 1 no mark, a failed poll would mark it too
+    ∷ (got (c .ask Accepted unmarked 1) ∷ got (c .ask Accepted failed 1) ∷ got (c .ask Accepted failed 3) ∷ [])
+    -- were 3 also the last one by that counter: neither rival is both preferred and last, and neither is marked
+    ∷ (got (c .ask Accepted failedParted 1) ∷ got (c .ask Accepted failedParted 3) ∷ [])
+    -- the poll of 3 makes it last, with a counter of 0; 1 stays accepted
     ∷ (is (preferredIn poll3 7) ∷ is (lastIn poll3 7) ∷ is (counterIn poll3 7) ∷ got (c .ask Accepted poll3 1) ∷ [])
     -- a poll that reaches both: in rising number, so 3 is last
     ∷ (is (lastIn poll4 7) ∷ is (counterIn poll4 7) ∷ [])
@@ -187,27 +194,79 @@ unfoldable pub rivalsSay : List (List Got)
 rivalsSay =
     (is 1 ∷ is 0 ∷ [])
     ∷ (is 1 ∷ is 1 ∷ is 2 ∷ is 2 ∷ is 1 ∷ is 0 ∷ [])
+    ∷ (is 0 ∷ is 1 ∷ is 0 ∷ [])
     ∷ (is 0 ∷ is 0 ∷ [])
-    ∷ (is 1 ∷ is 3 ∷ is 0 ∷ is 0 ∷ [])
+    ∷ (is 1 ∷ is 3 ∷ is 0 ∷ is 1 ∷ [])
     ∷ (is 3 ∷ is 0 ∷ [])
     ∷ []
 
--- ---- beside P1 to P12: 4 rests on 2, and 2 on 1, which has the rival 3; β2 is far off
+-- ---- beside P1 to P12: 4 rests on 2, and 2 on the genesis and on 1, which has the rival 3; β2 is far off
 
 unfoldable pub resting : CallsMade → List (List Got)
 resting c =
-    let first = c .book (c .book (openCall unopened (settingOf 1 1 1 510) .words) 1 7 (0 ∷ []) .words) 2 8 (1 ∷ []) .words in
+    let first = c .book (c .book (openCall unopened (settingOf 1 1 1 510) .words) 1 7 (0 ∷ []) .words) 2 8 (0 ∷ 1 ∷ []) .words in
     let booked = c .book (c .book first 3 7 (0 ∷ []) .words) 4 9 (2 ∷ []) .words in
     let poll4 = c .poll (c .poll booked 2 (1 ∷ []) .words) 4 (1 ∷ []) .words in
-    -- counters of slots 7 and 8 are above β1: 1 has a rival and is not accepted, and 2, alone in its slot, has a parent that isn't
+    -- counters of slots 7 and 8 are above β1: 1 has a rival and is not accepted, and 2, alone in its slot, has a second parent that isn't
     (is (counterIn poll4 7) ∷ is (counterIn poll4 8) ∷ got (c .ask Accepted poll4 1) ∷ got (c .ask Accepted poll4 2) ∷ [])
     ∷ []
 
 unfoldable pub restingSays : List (List Got)
 restingSays = (is 2 ∷ is 2 ∷ is 0 ∷ is 0 ∷ []) ∷ []
 
+-- ---- CR 5: 1 is accepted, alone in slot 7, before its rival 3 is booked; 4, 5 and 6 rest on the rival, which overtakes
+
+unfoldable pub late : CallsMade → List (List Got)
+late c =
+    let first = c .book (c .book (openCall unopened (settingOf 1 1 1 2) .words) 1 7 (0 ∷ []) .words) 2 8 (1 ∷ []) .words in
+    let accepted = c .poll (c .poll first 1 (1 ∷ []) .words) 2 (1 ∷ []) .words in
+    let rivalled = c .book accepted 3 7 (0 ∷ []) .words in
+    let booked = c .book (c .book (c .book rivalled 4 11 (3 ∷ []) .words) 5 12 (3 ∷ []) .words) 6 13 (3 ∷ []) .words in
+    let poll4 = c .poll (c .poll booked 3 (1 ∷ []) .words) 4 (1 ∷ []) .words in
+    let overtaken = c .poll (c .poll poll4 5 (1 ∷ []) .words) 6 (1 ∷ []) .words in
+    -- marks of the genesis, 1 and 2, and that 1 meets the rule
+    (got (c .ask Accepted accepted 0) ∷ got (c .ask Accepted accepted 1) ∷ got (c .ask Accepted accepted 2) ∷ is (bit (meetsRule accepted 1)) ∷ [])
+    -- the rival is booked: 1 no longer meets the rule, and stays accepted
+    ∷ (is (bit (meetsRule rivalled 1)) ∷ got (c .ask Accepted rivalled 1) ∷ got (c .ask Accepted rivalled 3) ∷ [])
+    -- it overtakes, and meets the rule: the slot's four words; 1 stays accepted, and 3 is not
+    ∷ (is (preferredIn overtaken 7) ∷ is (lastIn overtaken 7) ∷ is (counterIn overtaken 7) ∷ is (heldIn overtaken 7)
+    ∷ is (bit (meetsRule overtaken 3)) ∷ got (c .ask Accepted overtaken 1) ∷ got (c .ask Accepted overtaken 3) ∷ [])
+    -- a new opening marks the genesis alone
+    ∷ (got (c .ask Accepted (openCall overtaken (settingOf 1 1 1 2) .words) 0) ∷ got (c .ask Accepted (openCall overtaken (settingOf 1 1 1 2) .words) 1) ∷ [])
+    ∷ []
+
+unfoldable pub lateSays : List (List Got)
+lateSays =
+    (is 1 ∷ is 1 ∷ is 0 ∷ is 1 ∷ [])
+    ∷ (is 0 ∷ is 1 ∷ is 0 ∷ [])
+    ∷ (is 3 ∷ is 3 ∷ is 3 ∷ is 2 ∷ is 1 ∷ is 1 ∷ is 0 ∷ [])
+    ∷ (is 1 ∷ (10, pos 0) ∷ [])
+    ∷ []
+
+-- ---- CR 5: 1 has the rival 3, 2 rests on 1, 4 on 2, and 5 on 1 alone
+
+unfoldable pub passing : CallsMade → List (List Got)
+passing c =
+    let first = c .book (c .book (openCall unopened (settingOf 1 1 1 2) .words) 1 7 (0 ∷ []) .words) 2 8 (1 ∷ []) .words in
+    let booked = c .book (c .book (c .book first 3 7 (0 ∷ []) .words) 4 9 (2 ∷ []) .words) 5 10 (1 ∷ []) .words in
+    let poll4 = c .poll (c .poll booked 2 (1 ∷ []) .words) 4 (1 ∷ []) .words in
+    let poll5 = c .poll poll4 5 (1 ∷ []) .words in
+    -- the counters of slots 7 and 8 are 2: 1 has a rival and waits for β2, and 2 waits for 1
+    (is (counterIn poll4 7) ∷ is (counterIn poll4 8) ∷ got (c .ask Accepted poll4 1) ∷ got (c .ask Accepted poll4 2) ∷ [])
+    -- one poll marks 1 and then, since its parent has a mark by now, 2, which is not in the polled ancestry; 3, 4 and 5 stay without
+    ∷ (is (counterIn poll5 7) ∷ is (counterIn poll5 8) ∷ got (c .ask Accepted poll5 1) ∷ got (c .ask Accepted poll5 2)
+    ∷ got (c .ask Accepted poll5 3) ∷ got (c .ask Accepted poll5 4) ∷ got (c .ask Accepted poll5 5) ∷ [])
+    ∷ []
+
+unfoldable pub passingSays : List (List Got)
+passingSays =
+    (is 2 ∷ is 2 ∷ is 0 ∷ is 0 ∷ [])
+    ∷ (is 3 ∷ is 2 ∷ is 1 ∷ is 1 ∷ is 0 ∷ is 0 ∷ is 0 ∷ [])
+    ∷ []
+
 -- ---- CR 1: one ledger, damaged in one word or in several. Bookings 1, 2 and 3 are a chain in slots 7, 8 and 9; 1 and 2 have chits, and 3 waits.
 -- So n is 4 and p is 2, two records are in state 2, and 2 is the confidence of the genesis and of 1, the counter of slots 0 and 7, and the bound of both.
+-- The genesis and 1 are marked.
 
 -- record i has the name: a name below 65536 stands in the last of its four words
 abbrev named : List ℕ → (i name : ℕ) → List ℕ
@@ -221,6 +280,8 @@ damaged c =
     let confidence = withField counter 1 confidenceField 3 in
     let missing = withHeader sound pollsField 3 in
     let refused = c .book missing 4 10 (0 ∷ []) in
+    let both = withField (withField sound 3 slotField 7) 3 markField 1 in
+    let three = withField (withField both 2 slotField 7) 2 markField 1 in
     let told : List ℕ → Got = λ w. got (c .ask Size w 0) in
     -- nothing is damaged
     (told sound ∷ [])
@@ -236,6 +297,11 @@ damaged c =
     ∷ (told (withField sound 0 stateField 2) ∷ told (withEntry sound 255 heldField 1) ∷ [])
     -- record 2 loses its chit: one record is left in state 2, and the genesis has a confidence of 2
     ∷ (told (withField sound 2 stateField 1) ∷ [])
+    -- CR 5: the genesis has a mark, and a mark is 0 or 1; one that no poll gave is sound, and is reported
+    ∷ (told (withField sound 0 markField 0) ∷ told (withField sound 0 markField 2) ∷ told (withField sound 2 markField 2) ∷ told (withField sound 3 markField 65535) ∷ told (withField sound 4 markField 1)
+    ∷ got (c .ask Accepted (withField sound 3 markField 1) 3) ∷ [])
+    -- of two marked in a slot the higher breaks the rule, of three the second is the lowest that does; without the lowest mark the others stay
+    ∷ (told both ∷ told three ∷ told (withField three 1 markField 0) ∷ [])
     -- p = n breaks a header rule and hides the damage of record and slot; the wrong length hides that too; so is what was never opened told
     ∷ (told (withHeader confidence pollsField 4) ∷ told (0 ∷ withHeader confidence pollsField 4) ∷ told unopened ∷ [])
     -- n, the setting and the spare words are the header's
@@ -255,6 +321,8 @@ damagedSays =
     ∷ ((14, pos 1) ∷ (15, pos 7) ∷ (15, pos 7) ∷ (15, pos 0) ∷ (14, pos 1) ∷ [])
     ∷ ((14, pos 0) ∷ (15, pos 255) ∷ [])
     ∷ ((14, pos 0) ∷ [])
+    ∷ ((14, pos 0) ∷ (14, pos 0) ∷ (14, pos 2) ∷ (14, pos 3) ∷ (14, pos 4) ∷ is 1 ∷ [])
+    ∷ ((14, pos 3) ∷ (14, pos 2) ∷ (14, pos 3) ∷ [])
     ∷ ((2, pos 0) ∷ (1, pos 0) ∷ (2, pos 0) ∷ [])
     ∷ ((2, pos 0) ∷ (2, pos 0) ∷ (2, pos 0) ∷ (2, pos 0) ∷ [])
     ∷ ((14, pos 4) ∷ (15, pos 7) ∷ (15, pos 7) ∷ is 0 ∷ [])
@@ -265,11 +333,11 @@ damagedSays =
 
 -- what the cases give
 abbrev pub table : CallsMade → List (List Got)
-table c = diamond c ++ alone c ++ rivals c ++ resting c ++ damaged c
+table c = diamond c ++ alone c ++ rivals c ++ resting c ++ late c ++ passing c ++ damaged c
 
--- what document 01 and CR 1 say
+-- what document 01, CR 1 and CR 5 say
 abbrev pub says : List (List Got)
-says = diamondSays ++ aloneSays ++ rivalsSay ++ restingSays ++ damagedSays
+says = diamondSays ++ aloneSays ++ rivalsSay ++ restingSays ++ lateSays ++ passingSays ++ damagedSays
 
 -- ---- computed with the test that walks
 
@@ -277,23 +345,31 @@ abbrev made : (List ℕ → Tested) → CallsMade
 made test = record { book = bookBy test; poll = pollBy test; ask = readBy test }
 
 diamond-walked : Passes (sameTable (diamond (made testWalked)) diamondSays)
-unfolding diamond diamondSays sameNumbers testWalked badRecordWalked badSlotWalked headerGood genesisGood bookingGood parentsGood stateGood chits bookingsOf opened openWord lookUp hasUnknown hasTwice entered booked polled raiseOne prefer follow settleOne queryOf acceptOne acceptedOf rivalsMost leadOf sizeOf ancestry sweep spread voteOf openCall upTo firstFrom total greatest from walkFrom
+unfolding diamond diamondSays sameNumbers testWalked badRecordWalked badSlotWalked headerGood genesisGood bookingGood parentsGood stateGood markGood chits bookingsOf opened openWord lookUp hasUnknown hasTwice entered booked polled raiseOne prefer follow settleOne queryOf anotherMarked markOne rivalsMost leadOf sizeOf ancestry sweep spread voteOf openCall upTo firstFrom total greatest from walkFrom
 diamond-walked = tt
 
 alone-walked : Passes (sameTable (alone (made testWalked)) aloneSays)
-unfolding alone aloneSays testWalked badRecordWalked badSlotWalked headerGood genesisGood bookingGood parentsGood stateGood chits bookingsOf opened openWord lookUp hasUnknown hasTwice entered booked polled raiseOne prefer follow settleOne queryOf acceptOne acceptedOf rivalsMost leadOf sizeOf ancestry sweep spread voteOf openCall upTo firstFrom total greatest from walkFrom
+unfolding alone aloneSays testWalked badRecordWalked badSlotWalked headerGood genesisGood bookingGood parentsGood stateGood markGood chits bookingsOf opened openWord lookUp hasUnknown hasTwice entered booked polled raiseOne prefer follow settleOne queryOf anotherMarked markOne rivalsMost leadOf sizeOf ancestry sweep spread voteOf openCall upTo firstFrom total greatest from walkFrom
 alone-walked = tt
 
 rivals-walked : Passes (sameTable (rivals (made testWalked)) rivalsSay)
-unfolding rivals rivalsSay testWalked badRecordWalked badSlotWalked headerGood genesisGood bookingGood parentsGood stateGood chits bookingsOf opened openWord lookUp hasUnknown hasTwice entered booked polled raiseOne prefer follow settleOne queryOf acceptOne acceptedOf rivalsMost leadOf sizeOf ancestry sweep spread voteOf openCall upTo firstFrom total greatest from walkFrom
+unfolding rivals rivalsSay testWalked badRecordWalked badSlotWalked headerGood genesisGood bookingGood parentsGood stateGood markGood chits bookingsOf opened openWord lookUp hasUnknown hasTwice entered booked polled raiseOne prefer follow settleOne queryOf anotherMarked markOne rivalsMost leadOf sizeOf ancestry sweep spread voteOf openCall upTo firstFrom total greatest from walkFrom
 rivals-walked = tt
 
 resting-walked : Passes (sameTable (resting (made testWalked)) restingSays)
-unfolding resting restingSays testWalked badRecordWalked badSlotWalked headerGood genesisGood bookingGood parentsGood stateGood chits bookingsOf opened openWord lookUp hasUnknown hasTwice entered booked polled raiseOne prefer follow settleOne queryOf acceptOne acceptedOf rivalsMost leadOf sizeOf ancestry sweep spread voteOf openCall upTo firstFrom total greatest from walkFrom
+unfolding resting restingSays testWalked badRecordWalked badSlotWalked headerGood genesisGood bookingGood parentsGood stateGood markGood chits bookingsOf opened openWord lookUp hasUnknown hasTwice entered booked polled raiseOne prefer follow settleOne queryOf anotherMarked markOne rivalsMost leadOf sizeOf ancestry sweep spread voteOf openCall upTo firstFrom total greatest from walkFrom
 resting-walked = tt
 
+late-walked : Passes (sameTable (late (made testWalked)) lateSays)
+unfolding late lateSays testWalked badRecordWalked badSlotWalked headerGood genesisGood bookingGood parentsGood stateGood markGood chits bookingsOf opened openWord lookUp hasUnknown hasTwice entered booked polled raiseOne prefer follow settleOne queryOf anotherMarked markOne rivalsMost leadOf sizeOf ancestry sweep spread voteOf openCall upTo firstFrom total greatest from walkFrom
+late-walked = tt
+
+passing-walked : Passes (sameTable (passing (made testWalked)) passingSays)
+unfolding passing passingSays testWalked badRecordWalked badSlotWalked headerGood genesisGood bookingGood parentsGood stateGood markGood chits bookingsOf opened openWord lookUp hasUnknown hasTwice entered booked polled raiseOne prefer follow settleOne queryOf anotherMarked markOne rivalsMost leadOf sizeOf ancestry sweep spread voteOf openCall upTo firstFrom total greatest from walkFrom
+passing-walked = tt
+
 damaged-walked : Passes (sameTable (damaged (made testWalked)) damagedSays)
-unfolding damaged damagedSays sameNumbers testWalked badRecordWalked badSlotWalked headerGood genesisGood bookingGood parentsGood stateGood chits bookingsOf opened openWord lookUp hasUnknown hasTwice entered booked polled raiseOne prefer follow settleOne queryOf acceptOne acceptedOf rivalsMost leadOf sizeOf ancestry sweep spread voteOf openCall upTo firstFrom total greatest from walkFrom
+unfolding damaged damagedSays sameNumbers testWalked badRecordWalked badSlotWalked headerGood genesisGood bookingGood parentsGood stateGood markGood chits bookingsOf opened openWord lookUp hasUnknown hasTwice entered booked polled raiseOne prefer follow settleOne queryOf anotherMarked markOne rivalsMost leadOf sizeOf ancestry sweep spread voteOf openCall upTo firstFrom total greatest from walkFrom
 damaged-walked = tt
 
 -- one ledger's rows, by the calls of the law
@@ -306,6 +382,10 @@ pub cases : table theCalls ≡ says
 cases =
     ap₂ _++_
     (ap₂ _++_
+    (ap₂ _++_
+    (ap₂ _++_
     (ap₂ _++_ (ap₂ _++_ (rows-by diamond diamondSays diamond-walked) (rows-by alone aloneSays alone-walked)) (rows-by rivals rivalsSay rivals-walked))
     (rows-by resting restingSays resting-walked))
+    (rows-by late lateSays late-walked))
+    (rows-by passing passingSays passing-walked))
     (rows-by damaged damagedSays damaged-walked)

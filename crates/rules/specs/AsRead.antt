@@ -1,20 +1,18 @@
--- Document 01, "Readings", as people read them: what it is to be accepted, and what a rival is.
--- rule_laws/proofs/Accepted.antt and rule_laws/proofs/Readings.antt show that the definitions of Readings.antt say the same on sound workspaces.
+-- Document 01, "Readings", and CR 5, as people read them: what it is to meet the rule of acceptance, and what a rival is.
+-- rule_laws/proofs/Marked.antt and rule_laws/proofs/Readings.antt show that the definitions of Marks.antt and Readings.antt say the same on sound workspaces.
 use mathlib.Core.Path.{_≡_}
-use mathlib.Core.Bool.{true}
 use mathlib.Core.List.{List}
 use mathlib.Core.Logic.{_≢_, _⊎_}
 use Prim.Native.Nat.{ℕ, _<_, _≤_}
-use Rattle.rules.specs.Layout.{settingIn, slotOf, confidenceOf, preferredIn, lastIn, counterIn, heldIn}
+use Rattle.rules.specs.Layout.{settingIn, slotOf, confidenceOf, markOf, preferredIn, lastIn, counterIn, heldIn}
 use Rattle.rules.specs.Ancestry.{Parent}
-use Rattle.rules.specs.Readings.{acceptedOf}
 use Rattle.rules.specs.Sound.{BookingOf}
 
--- ---- accepted
+-- ---- the rule of acceptance, with the parents' acceptance read from their marks
 
 -- all parents are accepted, the slot has one booking and its counter is above β1
 pub record FirstArm (w : List ℕ) (i : ℕ) : Type 0 where
-  pub parents : (p : ℕ) → Parent w i p → acceptedOf w p ≡ true
+  pub parents : (p : ℕ) → Parent w i p → markOf w p ≡ 1
   pub alone : heldIn w (slotOf w i) ≡ 1
   pub counter : settingIn w .beta1 < counterIn w (slotOf w i)
 
@@ -24,12 +22,25 @@ pub record SecondArm (w : List ℕ) (i : ℕ) : Type 0 where
   pub last : lastIn w (slotOf w i) ≡ i
   pub counter : settingIn w .beta2 < counterIn w (slotOf w i)
 
--- ---- lead
+-- the genesis meets it; others exactly by one of the arms
+abbrev pub Meets : List ℕ → ℕ → Type 0
+Meets w i = (i ≡ 0) ⊎ FirstArm w i ⊎ SecondArm w i
+
+-- ---- rivals
 
 -- another booking of the slot
 pub record Rival (w : List ℕ) (i j : ℕ) : Type 0 where
   pub inSlot : BookingOf w (slotOf w i) j
   pub another : j ≢ i
+
+-- ---- a mark is earned
+
+-- it meets the rule, and no other in its slot is marked
+pub record Earned (w : List ℕ) (i : ℕ) : Type 0 where
+  pub meets : Meets w i
+  pub unrivalled : (j : ℕ) → Rival w i j → markOf w j ≢ 1
+
+-- ---- lead
 
 -- the greatest confidence among the slot's other bookings, or 0
 pub record MostOfRivals (w : List ℕ) (i m : ℕ) : Type 0 where

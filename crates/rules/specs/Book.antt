@@ -1,4 +1,4 @@
--- Document 01, "Book": each parent's name is looked up; the booking becomes number n, and enters its slot.
+-- Document 01, "Book", and CR 5: each parent's name is looked up; the booking becomes number n, and enters its slot.
 use Prim.Native.Nat.{ℕ, _+_, _/_, _%_, _^_}
 use mathlib.Core.Bool.{Bool, true, false, cond}
 use mathlib.Core.List.{List, [], _∷_}
@@ -55,13 +55,13 @@ parentNumbers w parents = parentNumber w parents 0 ∷ parentNumber w parents 1 
 
 -- ---- what a taken booking leaves; p has its four parent places
 
--- name in four parts, slot, parents, state 0, confidence 0, no ordinal
+-- name in four parts, slot, parents, state 0, confidence 0, no ordinal, no mark
 abbrev pub newRecord : ℕ → ℕ → List ℕ → List ℕ
 newRecord name slot p =
     name / 2 ^ 48 ∷ name / 2 ^ 32 % 65536 ∷ name / 2 ^ 16 % 65536 ∷ name % 65536
     ∷ slot
     ∷ getD p 0 0 ∷ getD p 1 0 ∷ getD p 2 0 ∷ getD p 3 0
-    ∷ 0 ∷ 0 ∷ 0 ∷ []
+    ∷ 0 ∷ 0 ∷ 0 ∷ 0 ∷ []
 
 -- in an empty slot it becomes preferred and last, with counter 0; otherwise only the slot's number of bookings rises
 unfoldable pub entered : ℕ → ℕ → List ℕ → List ℕ

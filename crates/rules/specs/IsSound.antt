@@ -1,4 +1,4 @@
--- Document 01, "A workspace is sound exactly if", and CR 1: the test, by rows. There is the header, a row for each record number from 0 to 512,
+-- Document 01, "A workspace is sound exactly if", CR 1 and CR 5: the test, by rows. There is the header, a row for each record number from 0 to 512,
 -- and a row for each slot; a workspace is sound where none of them breaks a rule. Sound.antt says the same sentence by sentence.
 use Prim.Native.Nat.{ℕ, suc, _+_}
 use mathlib.Core.Bool.{Bool, _&&_, _||_, not, cond}
@@ -24,6 +24,8 @@ use Rattle.rules.specs.Layout.{
   stateOf,
   confidenceOf,
   ordinalOf,
+  markOf,
+  isMarked,
   preferredIn,
   lastIn,
   counterIn,
@@ -48,11 +50,11 @@ headerGood w =
 
 -- ---- record rows
 
--- name 0, slot 0, no parents, state 1, ordinal 0
+-- name 0, slot 0, no parents, state 1, ordinal 0, marked
 unfoldable pub genesisGood : List ℕ → Bool
 genesisGood w =
     eqb (nameOf w 0) 0 && eqb (slotOf w 0) 0 && eqb (parentOf w 0 0) none && eqb (parentOf w 0 1) none && eqb (parentOf w 0 2) none
-    && eqb (parentOf w 0 3) none && eqb (stateOf w 0) 1 && eqb (ordinalOf w 0) 0
+    && eqb (parentOf w 0 3) none && eqb (stateOf w 0) 1 && eqb (ordinalOf w 0) 0 && eqb (markOf w 0) 1
 
 -- a name that no lower record has: of two with one name the higher breaks the rule
 abbrev pub nameNew : List ℕ → ℕ → Bool
@@ -79,9 +81,17 @@ unfoldable pub stateGood : List ℕ → ℕ → Bool
 stateGood w i =
     leb (stateOf w i) 2 && cond (eqb (stateOf w i) 0) (eqb (ordinalOf w i) 0) (not (eqb (ordinalOf w i) 0)) && leb (ordinalOf w i) (polls w)
 
+-- no mark, or one in a slot where no lower record has one: of several marked in a slot each but the lowest breaks the rule
+abbrev pub markNew : List ℕ → ℕ → Bool
+markNew w i = not (isMarked w i) || not (any (λ j. isMarked w j && eqb (slotOf w j) (slotOf w i)) i)
+
+-- a mark is 0 or 1, and each slot has at most one
+unfoldable pub markGood : List ℕ → ℕ → Bool
+markGood w i = leb (markOf w i) 1 && markNew w i
+
 -- a record below n other than the genesis
 unfoldable pub bookingGood : List ℕ → ℕ → Bool
-bookingGood w i = nameNew w i && leb 1 (slotOf w i) && ltb (slotOf w i) slots && parentsGood w i && stateGood w i && ordinalNew w i
+bookingGood w i = nameNew w i && leb 1 (slotOf w i) && ltb (slotOf w i) slots && parentsGood w i && stateGood w i && ordinalNew w i && markGood w i
 
 -- a record below n
 abbrev pub recordGood : List ℕ → ℕ → Bool

@@ -1,8 +1,10 @@
--- Document 01, "Numbers that bound it" and "The workspace": where each word stands, and what it is called.
+-- Document 01, "Numbers that bound it" and "The workspace", and CR 5: where each word stands, and what it is called.
 -- Widths, starts and how many there may be are named here and nowhere else (src/layout.rt has the same, for the code).
 use Prim.Native.Nat.{ℕ, _+_, _*_}
+use mathlib.Core.Bool.{Bool}
 use mathlib.Core.List.{List}
 use lib.ListN.{getD, set}
+use lib.Dec.{eqb}
 use Rattle.terms.specs.declared.setting.Setting.{Setting}
 use Rattle.terms.specs.Setting.{settingOf}
 
@@ -18,13 +20,13 @@ slots = 256
 abbrev pub mostParents : ℕ
 mostParents = 4
 
--- ---- 8 header words, 512 records of 12 words, 256 slot entries of 4 words
+-- ---- 8 header words, 512 records of 13 words, 256 slot entries of 4 words
 
 abbrev pub headerWords : ℕ
 headerWords = 8
 
 abbrev pub recordWords : ℕ
-recordWords = 12
+recordWords = 13
 
 abbrev pub slotWords : ℕ
 slotWords = 4
@@ -100,7 +102,7 @@ settingIn w = settingOf (header w kField) (header w aField) (header w beta1Field
 abbrev pub polls : List ℕ → ℕ
 polls w = header w pollsField
 
--- ---- a record: name, slot, parents, state, confidence, ordinal
+-- ---- a record: name, slot, parents, state, confidence, ordinal, mark
 
 abbrev pub slotField : ℕ
 slotField = 4
@@ -116,6 +118,9 @@ confidenceField = 10
 
 abbrev pub ordinalField : ℕ
 ordinalField = 11
+
+abbrev pub markField : ℕ
+markField = 12
 
 -- the name: four words, highest part first
 abbrev pub nameOf : List ℕ → ℕ → ℕ
@@ -137,6 +142,13 @@ confidenceOf w i = field w i confidenceField
 
 abbrev pub ordinalOf : List ℕ → ℕ → ℕ
 ordinalOf w i = field w i ordinalField
+
+-- 1 where the booking is accepted, else 0
+abbrev pub markOf : List ℕ → ℕ → ℕ
+markOf w i = field w i markField
+
+abbrev pub isMarked : List ℕ → ℕ → Bool
+isMarked w i = eqb (markOf w i) 1
 
 -- ---- a slot entry: preferred number, last number, counter, how many bookings
 

@@ -1,4 +1,4 @@
--- Document 01, "Open": the workspace becomes a ledger with the genesis only.
+-- Document 01, "Open", and CR 5: the workspace becomes a ledger with the genesis only.
 use Prim.Native.Nat.{ℕ, _-_, _/_, _%_}
 use mathlib.Core.Bool.{cond}
 use mathlib.Core.List.{List, [], _∷_}
@@ -12,9 +12,9 @@ use Rattle.rules.specs.Layout.{headerWords, recordWords, slotWords, slot
 abbrev pub openHeader : Setting → List ℕ
 openHeader s = 1 ∷ s .k ∷ s .a ∷ s .beta1 ∷ s .beta2 ∷ 0 ∷ 0 ∷ 0 ∷ []
 
--- the genesis: name 0, slot 0, no parents, state 1, confidence 0, ordinal 0
+-- the genesis: name 0, slot 0, no parents, state 1, confidence 0, ordinal 0, marked
 abbrev pub genesisRecord : List ℕ
-genesisRecord = 0 ∷ 0 ∷ 0 ∷ 0 ∷ 0 ∷ none ∷ none ∷ none ∷ none ∷ 1 ∷ 0 ∷ 0 ∷ []
+genesisRecord = 0 ∷ 0 ∷ 0 ∷ 0 ∷ 0 ∷ none ∷ none ∷ none ∷ none ∷ 1 ∷ 0 ∷ 0 ∷ 1 ∷ []
 
 abbrev pub openRecord : ℕ → List ℕ
 openRecord i = cond (eqb i 0) genesisRecord (replicate recordWords 0)

@@ -1,4 +1,4 @@
--- Document 01, "Poll": how many votes say yes, and what a completed poll does to the words.
+-- Document 01, "Poll", and CR 5: how many votes say yes, and what a completed poll does to the words.
 use Prim.Native.Nat.{ℕ, _+_}
 use mathlib.Core.Bool.{Bool, cond}
 use mathlib.Core.List.{List}
@@ -9,6 +9,7 @@ use Rattle.loops.specs.Search.{any}
 use Rattle.loops.specs.Total.{count}
 use Rattle.terms.specs.Votes.{voteOf, isYes, isRefused}
 use Rattle.rules.specs.Ancestry.{ancestry, isMember}
+use Rattle.rules.specs.Marks.{marked}
 use Rattle.rules.specs.Layout.{
   bookings,
   settingIn,
@@ -82,6 +83,14 @@ succeededWith m w i = settled m (bookings w) (raised m (bookings w) (noted w i 2
 abbrev pub succeeded : List ℕ → ℕ → List ℕ
 succeeded w i = succeededWith (ancestry w i) w i
 
+-- by its outcome, before anybody is marked
+abbrev pub concluded : Bool → List ℕ → ℕ → List ℕ
+concluded success w i = cond success (succeeded w i) (failed w i)
+
+-- and then, whatever the outcome, those who meet the rule of acceptance are marked
+abbrev pub polledBy : Bool → List ℕ → ℕ → List ℕ
+polledBy success w i = marked (concluded success w i)
+
 -- the words after a taken poll of booking i
 unfoldable pub polled : List ℕ → ℕ → List ℕ → List ℕ
-polled w i votes = cond (isSuccess w votes) (succeeded w i) (failed w i)
+polled w i votes = polledBy (isSuccess w votes) w i

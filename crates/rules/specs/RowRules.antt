@@ -1,4 +1,4 @@
--- CR 1, as people read it: the rules of the header, of each record row and of each slot row. A row breaks a rule where these don't all hold of it.
+-- CR 1 and CR 5, as people read them: the rules of the header, of each record row and of each slot row. A row breaks a rule where these don't all hold of it.
 -- rule_laws/proofs/RowRules.antt shows that the tests of IsSound.antt say the same, row by row.
 use Prim.Native.Nat.{ℕ, _+_, _≤_, _<_}
 use mathlib.Core.Path.{_≡_}
@@ -24,6 +24,7 @@ use Rattle.rules.specs.Layout.{
   stateOf,
   confidenceOf,
   ordinalOf,
+  markOf,
   counterIn,
 }
 
@@ -45,14 +46,17 @@ pub record Genesis (w : List ℕ) : Type 0 where
   pub parents : (a : ℕ) → a < mostParents → parentOf w 0 a ≡ none
   pub state : stateOf w 0 ≡ 1
   pub ordinal : ordinalOf w 0 ≡ 0
+  pub mark : markOf w 0 ≡ 1
 
--- a record below n. Of several holders of a name, or of an ordinal above 0, each but the lowest breaks the rule
+-- a record below n. Of several holders of a name, of an ordinal above 0, or of a mark in one slot, each but the lowest breaks the rule
 pub record RulesBelow (w : List ℕ) (i : ℕ) : Type 0 where
   pub genesis : i ≡ 0 → Genesis w
   pub booking : 0 < i → Booking w i
   pub nameNew : (j : ℕ) → j < i → nameOf w j ≢ nameOf w i
   pub ordinalMost : ordinalOf w i ≤ polls w
   pub ordinalNew : (j : ℕ) → j < i → ordinalOf w i ≢ 0 → ordinalOf w j ≢ ordinalOf w i
+  pub markKnown : markOf w i ≤ 1
+  pub markNew : (j : ℕ) → j < i → markOf w i ≡ 1 → markOf w j ≡ 1 → slotOf w j ≢ slotOf w i
   pub confidenceMost : confidenceOf w i ≤ chits w
 
 -- a row from n on. A missing ordinal is charged to row n, which is 512 in a full ledger, where no record is

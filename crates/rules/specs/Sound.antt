@@ -1,4 +1,4 @@
--- Document 01, "A workspace is sound exactly if": a named field for each thing that must hold, in its order.
+-- Document 01, "A workspace is sound exactly if", and CR 5: a named field for each thing that must hold, in its order.
 -- This is the form that people and promises read; rule_laws/proofs/Sound.antt shows that it says what the test of IsSound.antt says.
 use Prim.Native.Nat.{ℕ, _+_, _≤_, _<_}
 use mathlib.Core.Path.{_≡_}
@@ -26,6 +26,7 @@ use Rattle.rules.specs.Layout.{
   stateOf,
   confidenceOf,
   ordinalOf,
+  markOf,
   preferredIn,
   lastIn,
   counterIn,
@@ -75,12 +76,16 @@ pub record Sound (w : List ℕ) : Type 0 where
   pub genesisParents : (a : ℕ) → a < mostParents → parentOf w 0 a ≡ none
   pub genesisState : stateOf w 0 ≡ 1
   pub genesisOrdinal : ordinalOf w 0 ≡ 0
+  pub genesisMark : markOf w 0 ≡ 1
   -- records below n
   pub nameAlone : (i j : ℕ) → i < bookings w → j < bookings w → i ≢ j → nameOf w i ≢ nameOf w j
   pub booking : (i : ℕ) → 0 < i → i < bookings w → Booking w i
   pub ordinalMost : (i : ℕ) → i < bookings w → ordinalOf w i ≤ polls w
   pub ordinalHeld : (o : ℕ) → 1 ≤ o → o ≤ polls w → (i : ℕ) × (i < bookings w) × (ordinalOf w i ≡ o)
   pub ordinalAlone : (i j : ℕ) → i < bookings w → j < bookings w → i ≢ j → ordinalOf w i ≢ 0 → ordinalOf w i ≢ ordinalOf w j
+  -- a mark is 0 or 1, and each slot has at most one
+  pub markKnown : (i : ℕ) → i < bookings w → markOf w i ≤ 1
+  pub markAlone : (i j : ℕ) → i < bookings w → j < bookings w → i ≢ j → markOf w i ≡ 1 → markOf w j ≡ 1 → slotOf w i ≢ slotOf w j
   -- records from n on
   pub restZero : (i f : ℕ) → bookings w ≤ i → i < mostBookings → f < recordWords → field w i f ≡ 0
   -- slot entries

@@ -1,9 +1,9 @@
 // Where each word of the workspace stands. specs/Layout.antt has the same numbers, and nothing else knows them.
 //
 //   0                 header: n, k, a, beta1, beta2, p, 0, 0
-//   8                 512 records of 12 words: 4 of name, slot, 4 of parents, state, confidence, ordinal
-//   6,152             256 slot entries of 4 words: preferred, last, counter, bookings
-//   7,176             the end
+//   8                 512 records of 13 words: 4 of name, slot, 4 of parents, state, confidence, ordinal, mark
+//   6,664             256 slot entries of 4 words: preferred, last, counter, bookings
+//   7,688             the end
 pub const MOST_BOOKINGS: usize = 512;
 
 pub const SLOTS: usize = 256;
@@ -12,13 +12,13 @@ pub const MOST_PARENTS: usize = 4;
 
 pub const HEADER_WORDS: usize = 8;
 
-pub const RECORD_WORDS: usize = 12;
+pub const RECORD_WORDS: usize = 13;
 
 pub const SLOT_WORDS: usize = 4;
 
-pub const SLOTS_START: usize = 6152;
+pub const SLOTS_START: usize = 6664;
 
-pub const SIZE: usize = 7176;
+pub const SIZE: usize = 7688;
 
 // A parent place, preferred or last that holds no number.
 pub const NONE: u16 = 65535;
@@ -50,6 +50,8 @@ pub const STATE: usize = 9;
 pub const CONFIDENCE: usize = 10;
 
 pub const ORDINAL: usize = 11;
+
+pub const MARK: usize = 12;
 
 // Words of a slot entry.
 pub const PREFERRED: usize = 0;

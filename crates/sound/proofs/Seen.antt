@@ -1,23 +1,25 @@
 -- Bits say which ordinals the records so far hold, and their number whether one is missing.
 use mathlib.Core.Path.{_≡_, refl, ap, _∙_}
 use mathlib.Core.Bool.{true, cond, not, _&&_, _||_, and-eq-true-iff}
-use mathlib.Core.List.{List}
+use mathlib.Core.List.{List, [], _∷_}
 use Prim.Native.Nat.{ℕ, suc, _+_, _*_, _-_, _<_, _≤_}
 use native.Mathlib.Numerals.{add-one}
 use native.Mathlib.Omega.{arith}
 use lib.Dec.{eqb, eqb·suc-suc, leb, ltb}
-use borrow.Author.Tests.{leb-true, eq-eqb, ne-eqb}
+use borrow.Author.Tests.{leb-true, ltb-true, eq-eqb, ne-eqb}
 use Rattle.bits.specs.Bits.{bitAt}
 use Rattle.bits.specs.Members.{bitWords}
 use Rattle.bits.proofs.SetBelow.{setBelow-length, bitAt-setBelow}
 use Rattle.loops.specs.Search.{all}
 use Rattle.loops.specs.Total.{bit, count}
-use Rattle.loops.proofs.Bools.{and-judged}
+use Rattle.loops.proofs.Bools.{row, row-at, and-judged}
 use Rattle.loops.proofs.Search.{→any, →none, all-same}
 use Rattle.loops.proofs.Total.{total-same, total-split, total-cut, total-more, total-zero, count-all}
 use Rattle.rules.specs.Layout.{mostBookings, slots, bookings, polls, slotOf, stateOf, ordinalOf}
-use Rattle.rules.specs.IsSound.{nameNew, parentsGood, stateGood, bookingGood, ordinalsHeld}
+use Rattle.rules.specs.IsSound.{nameNew, parentsGood, stateGood, ordinalNew, bookingGood, ordinalsHeld}
 use Rattle.rules.specs.RowRules.{RulesBelow}
+use Rattle.marked_slots.specs.MarkedSlots.{marksBelow, markGoodBy}
+use Rattle.marked_slots.proofs.MarkedSlots.{markGood-marked}
 use Rattle.rule_laws.proofs.RowRules.{recordRow→Rules}
 use Rattle.sound.specs.Ordinals.{ordinalsBelow, SeenTo}
 use Rattle.sound.proofs.RecordRows.{lowestBelow, good-before}
@@ -30,12 +32,16 @@ unfolding stateGood
 ordinal-lt w i h e =
     omega (arith, leb-true (ordinalOf w i) (polls w) (and-eq-true-iff (leb (stateOf w i) 2 && cond (eqb (stateOf w i) 0) (eqb (ordinalOf w i) 0) (not (eqb (ordinalOf w i) 0))) (leb (ordinalOf w i) (polls w)) .0 e .1))
 
+-- and the bits of marked slots judge its mark so, since its slot has a bit where the slot is good
 pub bookingGood-seen : (w : List ℕ) (i : ℕ) → polls w < mostBookings
     → (nameNew w i && leb 1 (slotOf w i) && ltb (slotOf w i) slots && parentsGood w i && stateGood w i
-    && (eqb (ordinalOf w i) 0 || not (bitAt (ordinalsBelow w i) (ordinalOf w i)))) ≡ bookingGood w i
+    && (eqb (ordinalOf w i) 0 || not (bitAt (ordinalsBelow w i) (ordinalOf w i))) && markGoodBy (marksBelow w i) w i) ≡ bookingGood w i
 unfolding bookingGood
 bookingGood-seen w i h =
-    and-judged (nameNew w i && leb 1 (slotOf w i) && ltb (slotOf w i) slots && parentsGood w i) (stateGood w i) _ _ (λ e. rw (bitAt-setBelow (ordinalOf w) i (ordinalOf w i) (ordinal-lt w i h e)))
+    let before = nameNew w i ∷ leb 1 (slotOf w i) ∷ ltb (slotOf w i) slots ∷ parentsGood w i ∷ stateGood w i ∷ ordinalNew w i ∷ [] in
+    ap (λ t. t && markGoodBy (marksBelow w i) w i)
+    (and-judged (nameNew w i && leb 1 (slotOf w i) && ltb (slotOf w i) slots && parentsGood w i) (stateGood w i) _ _ (λ e. rw (bitAt-setBelow (ordinalOf w) i (ordinalOf w i) (ordinal-lt w i h e))))
+    ∙ and-judged true (row before) _ _ (λ e. markGood-marked w i (omega (arith, ltb-true (slotOf w i) slots (row-at before e 2))))
 
 -- ---- a pass over all records
 

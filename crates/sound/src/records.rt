@@ -7,7 +7,9 @@ ghost use Prim.Native.Nat.{_<_};
 ghost use Rattle.loops.specs.Search.{first};
 ghost use Rattle.rules.specs.Layout.{polls};
 ghost use Rattle.rules.specs.IsSound.{chits, nameNew, bookingGood, recordGood, recordRows, badRecord};
+ghost use Rattle.bits.specs.Members.{noBits};
 ghost use Rattle.name_filter.specs.Names.{namesBelow};
+ghost use Rattle.marked_slots.specs.MarkedSlots.{marksBelow, markGoodBy};
 ghost use Rattle.sound_rows.specs.HasBookings.{HasBookings};
 ghost use Rattle.sound.specs.Ordinals.{ordinalsBelow, Reached};
 ghost use Rattle.sound.specs.Rest.{isClear};
@@ -27,9 +29,10 @@ pub(crate) fn chits(w: &[u16], n: usize) -> usize
     found
 }
 
-// A record below n other than the genesis, where seen has the ordinals of the lower ones and fresh tells that none of them has its name.
-fn booking_good(w: &[u16], i: usize, seen: &[u64], fresh: bool) -> bool
-    requires { ⌜ Reached (now w) i (now seen) × (fresh ≡ nameNew (now w) i) ⌝ }
+// A record below n other than the genesis, where seen has the ordinals of the lower ones, fresh tells that none of them has its name, and single that
+// its mark is one that it may have.
+fn booking_good(w: &[u16], i: usize, seen: &[u64], fresh: bool, single: bool) -> bool
+    requires { ⌜ Reached (now w) i (now seen) × (fresh ≡ nameNew (now w) i) × (single ≡ markGoodBy (marksBelow (now w) i) (now w) i) ⌝ }
     ensures { λ r. ⌜ r ≡ bookingGood (now (w .entry)) i ⌝ }
 {
     let s = words::wide_field(w, i, layout::SLOT);
@@ -40,32 +43,44 @@ fn booking_good(w: &[u16], i: usize, seen: &[u64], fresh: bool) -> bool
         & sound_rows::record::parents_good(w, i)
         & sound_rows::record::state_good(w, i)
         & ((o == 0) | !bits::is_set(seen, o))
+        & single
 }
 
 // A record below n, where limit is the number of records in state 2.
-fn record_good(w: &[u16], i: usize, limit: usize, seen: &[u64], fresh: bool) -> bool
-    requires { ⌜ Reached (now w) i (now seen) × (limit ≡ chits (now w)) × (fresh ≡ nameNew (now w) i) ⌝ }
+fn record_good(w: &[u16], i: usize, limit: usize, seen: &[u64], fresh: bool, single: bool) -> bool
+    requires { ⌜ Reached (now w) i (now seen) × (limit ≡ chits (now w)) × (fresh ≡ nameNew (now w) i) × (single ≡ markGoodBy (marksBelow (now w) i) (now w) i) ⌝ }
     ensures { λ r. ⌜ r ≡ recordGood (now (w .entry)) i ⌝ }
 {
     let confidence = words::wide_field(w, i, layout::CONFIDENCE);
     if i == 0 {
         return sound_rows::record::genesis_good(w) & (confidence <= limit);
     }
-    booking_good(w, i, seen, fresh) & (confidence <= limit)
+    booking_good(w, i, seen, fresh, single) & (confidence <= limit)
 }
 
-// The lowest of the n records that breaks a rule, or n. The ordinals of those before it are seen then. The filter, of no names at first, is scratch.
-fn bad_record(w: &[u16], n: usize, limit: usize, seen: &mut [u64], filter: &mut [u64]) -> usize
-    requires { ⌜ HasBookings (now w) n × Reached (now w) 0 (now seen) × (limit ≡ chits (now w)) × (now filter ≡ namesBelow (now w) 0) ⌝ }
+// The lowest of the n records that breaks a rule, or n. The ordinals of those before it are seen then. The filter, of no names at first, and the bits
+// of marked slots, none of them set at first, are scratch.
+fn bad_record(
+    w: &[u16],
+    n: usize,
+    limit: usize,
+    seen: &mut [u64],
+    filter: &mut [u64],
+    marked: &mut [u64],
+) -> usize
+    requires { ⌜ HasBookings (now w) n × Reached (now w) 0 (now seen) × (limit ≡ chits (now w)) ⌝ }
+    requires { ⌜ (now filter ≡ namesBelow (now w) 0) × (now marked ≡ noBits) ⌝ }
     ensures { λ r. ⌜ (r ≡ first (λ i. not (recordGood (now (w .entry)) i)) n) × (now (seen .exit) ≡ ordinalsBelow (now (w .entry)) r) ⌝ }
 {
     for i in 0..n {
         let fresh = name_filter::enter(w, i, filter);
-        if !record_good(w, i, limit, seen, fresh) {
+        let single = marked_slots::mark_good(w, i, marked);
+        if !record_good(w, i, limit, seen, fresh, single) {
             return i;
         }
         let o = words::wide_field(w, i, layout::ORDINAL);
         bits::set_bit(seen, o);
+        marked_slots::note_mark(w, i, marked);
     }
     n
 }
@@ -91,7 +106,8 @@ pub(crate) fn bad_row(w: &[u16], n: usize, limit: usize) -> usize
     let p = words::wide(words::header(w, layout::POLLS));
     let mut seen = [0u64; bits::BIT_WORDS];
     let mut filter = [0u64; name_filter::FILTER_WORDS];
-    let row = bad_record(w, n, limit, &mut seen, &mut filter);
+    let mut marked = [0u64; bits::BIT_WORDS];
+    let row = bad_record(w, n, limit, &mut seen, &mut filter, &mut marked);
     if row != n {
         return row;
     }

@@ -11,7 +11,7 @@ ghost use Rattle.rules.specs.IsSound.{genesisGood, parentsGood, stateGood, reco
 // What stands at a place with no parent.
 const NO_PARENT: usize = layout::NONE as usize;
 
-// Name 0, slot 0, no parents, state 1, ordinal 0.
+// Name 0, slot 0, no parents, state 1, ordinal 0, marked.
 pub fn genesis_good(w: &[u16]) -> bool
     requires { ⌜ length (now w) ≡ size ⌝ }
     ensures { λ r. ⌜ r ≡ genesisGood (now (w .entry)) ⌝ }
@@ -24,6 +24,7 @@ pub fn genesis_good(w: &[u16]) -> bool
         & (words::parent(w, 0, 3) == NO_PARENT)
         & (words::field(w, 0, layout::STATE) == 1)
         & (words::field(w, 0, layout::ORDINAL) == 0)
+        & (words::field(w, 0, layout::MARK) == 1)
 }
 
 // At least one parent, unused places after used ones, parents distinct and below i.

@@ -17,11 +17,11 @@ use Rattle.terms.specs.Answers.{Outcome, done}
 use Rattle.terms.specs.Votes.{voteOf}
 use Rattle.rules.specs.Layout.{size}
 use Rattle.rules.specs.Ancestry.{ancestry, sweep, spread}
-use Rattle.rules.specs.IsSound.{headerGood, genesisGood, bookingGood, parentsGood, stateGood, chits, bookingsOf}
+use Rattle.rules.specs.IsSound.{headerGood, genesisGood, bookingGood, parentsGood, stateGood, markGood, chits, bookingsOf}
 use Rattle.rules.specs.Open.{opened, openWord}
 use Rattle.rules.specs.Book.{lookUp, hasUnknown, hasTwice, entered, booked}
 use Rattle.rules.specs.Poll.{polled, raiseOne, prefer, follow, settleOne}
-use Rattle.rules.specs.Readings.{acceptOne, acceptedOf}
+use Rattle.rules.specs.Marks.{anotherMarked, markOne}
 use Rattle.rules.specs.Calls.{tested, openCall, bookBy, pollBy, readBy, bookCall, pollCall, readCall}
 use Rattle.rules.specs.Listing.{listCall}
 use Rattle.rules.proofs.Same.{Passes, passes, sameNumbers, same-numbers}
@@ -97,7 +97,7 @@ abbrev unopened : List ℕ
 unopened = replicate size 0
 
 run-walked : Passes (sameNumbers (runPrints (made testWalked) unopened) runSays)
-unfolding runPrints sameNumbers listRow rowsPrint listPrints rowPrints digitsOf decimal testWalked badRecordWalked badSlotWalked headerGood genesisGood bookingGood parentsGood stateGood chits bookingsOf opened openWord lookUp hasUnknown hasTwice entered booked polled raiseOne prefer follow settleOne acceptOne acceptedOf ancestry sweep spread voteOf openCall upTo firstFrom total greatest from walkFrom
+unfolding runPrints sameNumbers listRow rowsPrint listPrints rowPrints digitsOf decimal testWalked badRecordWalked badSlotWalked headerGood genesisGood bookingGood parentsGood stateGood markGood chits bookingsOf opened openWord lookUp hasUnknown hasTwice entered booked polled raiseOne prefer follow settleOne anotherMarked markOne ancestry sweep spread voteOf openCall upTo firstFrom total greatest from walkFrom
 run-walked = tt
 
 pub calls-walked : theCalls ≡ made testWalked

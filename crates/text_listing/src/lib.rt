@@ -6,9 +6,7 @@ ghost use Prim.Native.Nat.{_+_, _*_, _<_, _≤_};
 ghost use lib.ListN.{length};
 ghost use Rattle.loops.specs.Total.{bit};
 ghost use Rattle.rules.specs.Layout.{bookings};
-ghost use Rattle.rules.specs.Readings.{acceptedBelow};
 ghost use Rattle.rules.specs.Sound.{Ledger};
-ghost use Rattle.bits.specs.Members.{membersIn};
 ghost use Rattle.put.specs.Put.{Put};
 ghost use Rattle.text_print.specs.Columns.{rowPrints};
 ghost use Rattle.text_listing.specs.Listed.{listRow, rowsPrint, listPrints, rowMost, lineMost};
@@ -23,54 +21,53 @@ fn flag(b: bool) -> u64
     if b { 1 } else { 0 }
 }
 
-// Number, slot, state, confidence, preferred, accepted. The accepted bookings are marked.
-fn row_of(w: &[u16], accepted: &[u64], i: usize) -> [u64; 6]
-    requires { ⌜ Ledger (now w) × (i < bookings (now w)) × (membersIn (now accepted) ≡ acceptedBelow (now w) (bookings (now w))) ⌝ }
+// Number, slot, state, confidence, preferred, accepted.
+fn row_of(w: &[u16], i: usize) -> [u64; 6]
+    requires { ⌜ Ledger (now w) × (i < bookings (now w)) ⌝ }
     ensures { λ r. ⌜ r ≡ listRow (now (w .entry)) i ⌝ }
 {
     let slot = booking::slot_of(w, i);
     let state = words::wide_field(w, i, layout::STATE);
     let confidence = words::wide(booking::confidence_of(w, i));
     let preferred = flag(preference::is_preferred(w, i));
-    let is_accepted = flag(bits::is_set(accepted, i));
+    let accepted = flag(booking::is_accepted(w, i));
     [
         i as u64,
         slot as u64,
         state as u64,
         confidence as u64,
         preferred,
-        is_accepted,
+        accepted,
     ]
 }
 
 // The row of booking i.
-fn put_one(w: &[u16], accepted: &[u64], i: usize, out: &mut [u8], at: usize) -> usize
-    requires { ⌜ Ledger (now w) × (i < bookings (now w)) × (membersIn (now accepted) ≡ acceptedBelow (now w) (bookings (now w))) × (at + rowMost ≤ length (now out)) ⌝ }
+fn put_one(w: &[u16], i: usize, out: &mut [u8], at: usize) -> usize
+    requires { ⌜ Ledger (now w) × (i < bookings (now w)) × (at + rowMost ≤ length (now out)) ⌝ }
     ensures { λ r. ⌜ Put (now (out .entry)) at (rowPrints (listRow (now (w .entry)) i)) r (now (out .exit)) ⌝ }
 {
-    let row = row_of(w, accepted, i);
+    let row = row_of(w, i);
     text_print::columns::put_row(out, at, &row)
 }
 
 // The rows of all bookings in rising number.
-fn put_rows(w: &[u16], accepted: &[u64], out: &mut [u8], at: usize) -> usize
-    requires { ⌜ Ledger (now w) × (membersIn (now accepted) ≡ acceptedBelow (now w) (bookings (now w))) × (at + rowMost * bookings (now w) ≤ length (now out)) ⌝ }
+fn put_rows(w: &[u16], out: &mut [u8], at: usize) -> usize
+    requires { ⌜ Ledger (now w) × (at + rowMost * bookings (now w) ≤ length (now out)) ⌝ }
     ensures { λ r. ⌜ Put (now (out .entry)) at (rowsPrint (now (w .entry)) (bookings (now (w .entry)))) r (now (out .exit)) ⌝ }
 {
     let n = booking::how_many(w);
     let mut next = at;
     for i in 0..n {
-        next = put_one(w, accepted, i, out, next);
+        next = put_one(w, i, out, next);
     }
     next
 }
 
-// One pass members all accepted bookings; the rows only look.
+// The header and the rows of all bookings.
 pub fn put_list(w: &[u16], out: &mut [u8], at: usize) -> usize
     requires { ⌜ Ledger (now w) × (at + lineMost ≤ length (now out)) ⌝ }
     ensures { λ r. ⌜ Put (now (out .entry)) at (listPrints (now (w .entry))) r (now (out .exit)) ⌝ }
 {
-    let accepted = acceptance::accepted_below(w, booking::how_many(w));
     let next = text_print::columns::put_list_header(out, at);
-    put_rows(w, &accepted, out, next)
+    put_rows(w, out, next)
 }

@@ -6,3 +6,4 @@ pub mod Written
 pub mod Keeping
 pub mod Example
 pub mod Readings
+pub mod Stays

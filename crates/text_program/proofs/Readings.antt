@@ -12,11 +12,12 @@ use Rattle.terms.specs.Setting.{settingOf}
 use Rattle.terms.specs.Votes.{voteOf}
 use Rattle.terms.specs.declared.answer.Reading.the-variants.{Query, Accepted, Lead, Confidence, Size}
 use Rattle.rules.specs.Ancestry.{ancestry, sweep, spread}
-use Rattle.rules.specs.IsSound.{headerGood, genesisGood, bookingGood, parentsGood, stateGood, chits, bookingsOf}
+use Rattle.rules.specs.IsSound.{headerGood, genesisGood, bookingGood, parentsGood, stateGood, markGood, chits, bookingsOf}
 use Rattle.rules.specs.Open.{opened, openWord}
 use Rattle.rules.specs.Book.{lookUp, hasUnknown, hasTwice, entered, booked}
 use Rattle.rules.specs.Poll.{polled, raiseOne, prefer, follow, settleOne}
-use Rattle.rules.specs.Readings.{queryOf, acceptOne, acceptedOf, rivalsMost, leadOf, sizeOf}
+use Rattle.rules.specs.Marks.{anotherMarked, markOne}
+use Rattle.rules.specs.Readings.{queryOf, rivalsMost, leadOf, sizeOf}
 use Rattle.rules.specs.Calls.{openCall}
 use Rattle.rules.proofs.Same.{Passes, passes, sameNumbers, same-numbers}
 use Rattle.rules.proofs.Walk.{badRecordWalked, badSlotWalked, testWalked}
@@ -95,7 +96,7 @@ unfolding printed served lineSays openSays readSays bookSays pollSays leading ma
 readings-calls w = refl
 
 readings-walked : Passes (sameNumbers (readingsPrint (made testWalked) zeros) readingsSay)
-unfolding readingsPrint sameNumbers digitsOf decimal signed testWalked badRecordWalked badSlotWalked headerGood genesisGood bookingGood parentsGood stateGood chits bookingsOf opened openWord lookUp hasUnknown hasTwice entered booked polled raiseOne prefer follow settleOne queryOf acceptOne acceptedOf rivalsMost leadOf sizeOf ancestry sweep spread voteOf openCall upTo firstFrom total greatest from walkFrom
+unfolding readingsPrint sameNumbers digitsOf decimal signed testWalked badRecordWalked badSlotWalked headerGood genesisGood bookingGood parentsGood stateGood markGood chits bookingsOf opened openWord lookUp hasUnknown hasTwice entered booked polled raiseOne prefer follow settleOne anotherMarked markOne queryOf rivalsMost leadOf sizeOf ancestry sweep spread voteOf openCall upTo firstFrom total greatest from walkFrom
 readings-walked = tt
 
 pub readings-print : program readingsInput ≡ readingsSay

@@ -6,7 +6,7 @@
 //! busy machine more than half of one side's samples can be interrupted, and
 //! the middle one with them. A single call is seldom interrupted.
 
-use crate::ledgers::{case, SIZES};
+use crate::ledgers::{case, words_for, SIZES};
 use random::call::{Call, Face, Second};
 use std::hint::black_box;
 use std::time::{Duration, Instant};
@@ -57,14 +57,18 @@ pub fn measure(before: Option<&dyn Face>) -> Vec<Cost> {
 fn measure_case(kind: &'static str, n: usize, before: Option<&dyn Face>) -> Cost {
     let case = case(kind, n);
     let copy = case.ws.clone();
-    let (mut ws, mut out) = (case.ws.clone(), case.call.lent_bytes());
+    let (mut lent, mut out) = (case.ws.clone(), case.call.lent_bytes());
     let (call, reading) = (&case.call, &case.reading());
-    let sides: [(Option<&dyn Face>, &Call); 5] = [
-        (OURS, call),
-        (before.filter(|face| face.has(kind)), call),
-        (Some(&Second), call),
-        (Some(&Second), call),
-        (OURS, reading),
+    // An older build may ask for fewer words than there are now.
+    let before = before.filter(|face| face.has(kind));
+    let sized = before.and_then(|face| Some((face, words_for(face)?)));
+    let older = sized.map_or(Vec::new(), |(face, words)| case.words_by(face, words));
+    let sides: [(Option<&dyn Face>, &Call, &[u16]); 5] = [
+        (OURS, call, &case.ws),
+        (sized.map(|(face, _)| face), call, &older),
+        (Some(&Second), call, &case.ws),
+        (Some(&Second), call, &case.ws),
+        (OURS, reading, &case.ws),
     ];
     let mut times: [Vec<f64>; 5] = Default::default();
     let mut memcmp = Vec::new();
@@ -75,11 +79,13 @@ fn measure_case(kind: &'static str, n: usize, before: Option<&dyn Face>) -> Cost
         }
         for place in 0..sides.len() {
             let who = (turn + place) % sides.len();
-            if let (Some(face), call) = sides[who] {
+            if let (Some(face), call, words) = sides[who] {
                 // The words are copied anew outside of the time taken, so
-                // they are warm and the same for every call.
-                ws.copy_from_slice(&case.ws);
-                times[who].push(sample(face, call, &mut ws, &mut out));
+                // they are warm and the same for every call, and stand at the
+                // same place for all.
+                let ws = &mut lent[..words.len()];
+                ws.copy_from_slice(words);
+                times[who].push(sample(face, call, ws, &mut out));
             }
         }
         memcmp.push(timed(BATCH, || {

@@ -6,11 +6,15 @@
 //! last has a chit. The day file, written or read, is that of a ledger with
 //! four parents each and every booking polled: no file of so many bookings is
 //! longer.
+//!
+//! A ledger is a list of calls. Another build of the product may lay its words
+//! out otherwise, and is led to the same ledger by its own answers to them.
 
-use random::call::{Buffer, Call};
+use random::call::{Buffer, Call, Face};
 use random::grow::words_of;
+use random::planted::WORDS_WITHOUT_MARKS;
 use second::day::Day;
-use second::layout::{BOOKINGS, N, PARENTS, SLOTS};
+use second::layout::{BOOKINGS, N, PARENTS, SLOTS, WORDS};
 use second::ledger::{Ledger, Reading};
 use second::setting::Setting;
 
@@ -40,31 +44,74 @@ const USUAL_PARENTS: usize = 2;
 
 /// A ledger of `n` bookings with so many parents each, of which those below
 /// `waiting` are polled.
-fn booked(n: usize, count: usize, waiting: usize) -> Ledger {
+fn booked(n: usize, count: usize, waiting: usize) -> Vec<Call> {
+    let bookings = (1..n).map(|b| Call::Book {
+        name: name(b),
+        slot: slot(b),
+        parents: parents(b, count),
+    });
+    let polls = (1..waiting).map(|b| Call::Poll {
+        name: name(b),
+        votes: votes(),
+    });
+    let opening = [Call::Open(Setting::PAPER)];
+    (opening.into_iter()).chain(bookings).chain(polls).collect()
+}
+
+/// A ledger of `n` bookings, the last of which waits.
+fn usual(n: usize) -> Vec<Call> {
+    booked(n, USUAL_PARENTS, n - 1)
+}
+
+/// The second program's ledger after these calls.
+fn ledger(calls: &[Call]) -> Ledger {
     let mut ledger = Ledger::open(Setting::PAPER).expect("the paper's setting is good");
-    for b in 1..n {
-        (ledger.book(name(b), slot(b), &parents(b, count))).expect("its parents are booked");
-    }
-    for b in 1..waiting {
-        (ledger.poll(name(b), &votes())).expect("it waits");
+    for call in &calls[1..] {
+        match call {
+            Call::Book {
+                name,
+                slot,
+                parents,
+            } => ledger.book(*name, *slot, parents),
+            Call::Poll { name, votes } => ledger.poll(*name, votes),
+            _ => unreachable!("a ledger is booked and polled"),
+        }
+        .expect("its parents are booked, and it waits");
     }
     ledger
 }
 
-/// A ledger of `n` bookings, the last of which waits.
-fn ledger(n: usize) -> Vec<u16> {
-    words_of(&booked(n, USUAL_PARENTS, n - 1))
+/// How many words a build of the product asks for: as many as this one, or as
+/// many as before there were marks.
+pub fn words_for(face: &dyn Face) -> Option<usize> {
+    let is_taken = |words: &usize| {
+        let opening = Call::Open(Setting::PAPER);
+        face.call(&mut vec![0; *words], &mut [], &opening) == (0, 0)
+    };
+    [WORDS, WORDS_WITHOUT_MARKS].into_iter().find(is_taken)
 }
 
 /// A call to measure and the words that it is made on.
 pub struct Case {
     pub call: Call,
+    /// The calls that lead to the words.
+    pub calls: Vec<Call>,
     pub ws: Vec<u16>,
     /// What has to be known to read the row.
     pub note: String,
 }
 
 impl Case {
+    /// So many words, as the calls leave them by this face's own answers.
+    pub fn words_by(&self, face: &dyn Face, words: usize) -> Vec<u16> {
+        let mut ws = vec![0; words];
+        for call in &self.calls {
+            let answer = face.call(&mut ws, &mut [], call);
+            assert_eq!(answer, (0, 0), "{call:?}");
+        }
+        ws
+    }
+
     /// A short reading on the same words.
     pub fn reading(&self) -> Call {
         let last = usize::from(self.ws[N]) - 1;
@@ -75,7 +122,7 @@ impl Case {
 /// The case of each kind of call on a ledger of `n`.
 pub fn case(kind: &str, n: usize) -> Case {
     let last = name(n - 1);
-    let mut ws = ledger(n);
+    let mut calls = usual(n);
     let mut note = String::new();
     let call = match kind {
         "open" => Call::Open(Setting::PAPER),
@@ -83,7 +130,7 @@ pub fn case(kind: &str, n: usize) -> Case {
             let mut b = n;
             if n == BOOKINGS {
                 b = n - 1;
-                ws = ledger(b);
+                calls = usual(b);
                 note = "on 511, as the last that is taken".to_string();
             }
             Call::Book {
@@ -102,9 +149,8 @@ pub fn case(kind: &str, n: usize) -> Case {
             }
         }
         "write_first" | "read_first" => {
-            let ledger = booked(n, PARENTS, n);
-            ws = words_of(&ledger);
-            let file = Day::of(&ledger).file();
+            calls = booked(n, PARENTS, n);
+            let file = Day::of(&ledger(&calls)).file();
             let room = file.len();
             note = format!("{room} bytes: four parents each, all polled");
             if kind == "write_first" {
@@ -118,5 +164,11 @@ pub fn case(kind: &str, n: usize) -> Case {
             Call::Read(reading.expect("the kinds are known"), last)
         }
     };
-    Case { call, ws, note }
+    let ws = words_of(&ledger(&calls));
+    Case {
+        call,
+        calls,
+        ws,
+        note,
+    }
 }

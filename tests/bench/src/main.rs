@@ -58,7 +58,11 @@ fn main() -> ExitCode {
 /// Another build of the product.
 #[cfg(feature = "station")]
 fn load(path: &Path) -> Result<Box<dyn Face>, String> {
-    Ok(Box::new(random::station::Station::load(path)?))
+    let face = random::station::Station::load(path)?;
+    match ledgers::words_for(&face) {
+        Some(_) => Ok(Box::new(face)),
+        None => Err(format!("{} opens no workspace", path.display())),
+    }
 }
 #[cfg(not(feature = "station"))]
 fn load(_: &Path) -> Result<Box<dyn Face>, String> {

@@ -4,12 +4,12 @@
 use crate::call::{Buffer, Call};
 use crate::draft::Draft;
 use crate::file;
-use crate::grow::{good_setting, grow, Style};
+use crate::grow::{any_accepted, good_setting, grow, parents_beside, Style};
 use crate::prng::Prng;
 use crate::spoil::Kind;
 use second::day::{Day, LONGEST_FILE, SHORTEST_FILE};
 use second::layout::PARENTS;
-use second::ledger::{Ledger, Reading, State};
+use second::ledger::{Ledger, Reading, Slot, State};
 use second::setting::Setting;
 
 /// What a call is meant to show.
@@ -60,7 +60,7 @@ fn reads(ledger: &Ledger) -> usize {
     if ledger.bookings.len() > 100 {
         4
     } else {
-        12
+        15
     }
 }
 
@@ -128,10 +128,35 @@ pub fn choose_line(prng: &mut Prng, ledger: &Ledger, style: &Style) -> Call {
         Aim::Poll | Aim::PollUnknown | Aim::PollAgain | Aim::PollBadCount | Aim::PollBadByte => {
             poll(prng, ledger, style, aim)
         }
+        Aim::Read if prng.chance(20) => read_contested(prng, ledger),
         Aim::Read => Call::Read(prng.pick(&Reading::ALL), known_name(prng, ledger)),
         Aim::ReadUnknown => Call::Read(prng.pick(&Reading::ALL), unknown_name(prng, ledger)),
         _ => book(prng, ledger, style, aim),
     }
+}
+
+/// Is somebody accepted whose slot has both a mark and rivals? If there is no
+/// such slot, anybody.
+pub fn read_contested(prng: &mut Prng, ledger: &Ledger) -> Call {
+    let is_marked = |b: &usize| ledger.bookings[*b].is_marked;
+    let is_contested =
+        |slot: &&Slot| slot.bookings.len() > 1 && slot.bookings.iter().any(is_marked);
+    let contested: Vec<&Slot> = ledger.slots.values().filter(is_contested).collect();
+    let name = if contested.is_empty() {
+        known_name(prng, ledger)
+    } else {
+        let slot = prng.pick(&contested);
+        // Not those that nobody polls.
+        let marked = slot.bookings.iter().copied().find(is_marked);
+        let b = prng.pick(&[slot.preferred, slot.last, marked.unwrap_or(slot.last)]);
+        ledger.bookings[b].name
+    };
+    Call::Read(Reading::Accepted, name)
+}
+
+/// A poll of somebody who waits, if there is anybody.
+pub fn choose_poll(prng: &mut Prng, ledger: &Ledger, style: &Style) -> Call {
+    poll(prng, ledger, style, Aim::Poll)
 }
 
 /// A setting around the borders, good or not.
@@ -163,6 +188,11 @@ fn book(prng: &mut Prng, ledger: &Ledger, style: &Style, aim: Aim) -> Call {
     let mut slot = style.slot(prng);
     let mut parents = style.shape.parents(prng, &booked);
     match aim {
+        Aim::Book if prng.chance(LATE) => {
+            if let Some(late) = any_late(prng, ledger) {
+                (slot, parents) = late;
+            }
+        }
         Aim::BookKnownName => name = known_name(prng, ledger),
         Aim::BookBadSlot => slot = bad_slot(prng),
         Aim::BookBadCount => parents = bad_parent_count(prng, &booked),
@@ -197,6 +227,24 @@ fn book(prng: &mut Prng, ledger: &Ledger, style: &Style, aim: Aim) -> Call {
         slot,
         parents,
     }
+}
+
+/// How many good bookings of a hundred have to do with late rivals.
+const LATE: usize = 40;
+
+/// Slot and parents of a rival to one that is accepted, or of a booking that
+/// stands on such a rival.
+fn any_late(prng: &mut Prng, ledger: &Ledger) -> Option<(u16, Vec<u64>)> {
+    let accepted = any_accepted(prng, ledger)?;
+    let slot = ledger.bookings[accepted].slot;
+    let rivals = ledger.slot_of(accepted).bookings.iter();
+    let rivals: Vec<usize> = rivals.copied().filter(|&b| b != accepted).collect();
+    if rivals.is_empty() || prng.chance(30) {
+        return Some((slot, parents_beside(prng, ledger, accepted)));
+    }
+    let other = 1 + (slot + prng.word(0, 253)) % 255;
+    let rival = prng.pick(&rivals);
+    Some((other, vec![ledger.bookings[rival].name]))
 }
 
 fn bad_slot(prng: &mut Prng) -> u16 {

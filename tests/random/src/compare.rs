@@ -4,33 +4,43 @@
 //! and makes calls on it. Some calls are made on a copy that is damaged or
 //! has another length. After each call the numbers, the values, all words, the
 //! lent bytes and the guards are compared; on reached ledgers the laws are
-//! checked, the row named for damage is held to where it was done, and a day
-//! file to the words. What a run starts from is written and read back.
+//! checked, the row named for damage is held to where it was done, a day file
+//! to the words, and marks to the words before. The ledger that a run has grown
+//! is written and read back.
 
 use crate::call::{Call, Face};
-use crate::choose::{choose, write_into};
+use crate::choose::{choose, choose_poll, read_contested, write_into};
 use crate::damage::Damaged;
+use crate::events::Moment;
 use crate::file;
 use crate::grow::{any_size, grow, grow_longest, words_of, Style};
 use crate::guard::Guarded;
 use crate::made::{Made, Verdict};
+use crate::planted::WORDS_WITHOUT_MARKS;
 use crate::prng::Prng;
 use crate::report::words_text;
-use crate::scramble::scramble;
-use crate::tally::{Tally, LAWS, REACHED, READ_BACK, TOLD, UNREACHED};
-use second::codec::decode;
+use crate::scramble::{scramble, scramble_marks};
+use crate::tally::{
+    Tally, HANDED_ON, LAWS, LENGTH_WITHOUT_MARKS, MARK_LOST, REACHED, READ_BACK, TOLD, UNREACHED,
+};
+use second::codec::{decode, ledger_of};
 use second::laws::{check_accepted_once, History, Picture};
-use second::layout::WORDS;
+use second::layout::{record, BOOKINGS, MARK, WORDS};
 use second::ledger::{Ledger, Reading};
 use second::parse::parse;
 use second::sound::Damage;
 use second::words::Answer;
+use std::collections::VecDeque;
 use std::fmt::{self, Display, Formatter};
 
 /// Calls in a run.
 const RUN_CALLS: usize = 50;
 /// One run of so many starts from a ledger with the longest day file.
 const LONGEST_EVERY: usize = 60;
+/// Where rivals come late to a ledger of so few bookings, both faces make the
+/// last of the calls that it grows by.
+const FEW: usize = 60;
+const RIVALS: usize = 20;
 
 /// A difference, with the run that led to it as text.
 #[derive(Debug)]
@@ -72,17 +82,24 @@ struct Contest<'a> {
     history: Option<History>,
     /// The last file that was written of the run's own words.
     written: Vec<u8>,
+    /// Calls that are still to be made before any are chosen.
+    ahead: VecDeque<Call>,
     /// The words that the run started from, and all that was done.
     start: Vec<u16>,
     steps: Vec<Step>,
 }
 
-/// A call that was made, and its answers.
-struct Step {
-    note: &'static str,
-    call: Call,
-    ours: Answer,
-    theirs: Answer,
+/// What was done.
+enum Step {
+    /// A call that was made, and its answers.
+    Made {
+        note: &'static str,
+        call: Call,
+        ours: Answer,
+        theirs: Answer,
+    },
+    /// The words got other marks, and these were drawn.
+    Marked(Vec<u16>),
 }
 
 impl<'a> Contest<'a> {
@@ -106,6 +123,11 @@ impl<'a> Contest<'a> {
             scramble(prng, &mut grown.ledger);
         }
         tally.add(if is_reached { REACHED } else { UNREACHED });
+        let mut ahead = Vec::new();
+        if is_reached && grown.style.late_rivals >= RIVALS && grown.ledger.bookings.len() < FEW {
+            let count = prng.between(5, 25);
+            (grown, ahead) = grown.before_last(count);
+        }
         let ws = words_of(&grown.ledger);
         Contest {
             ours,
@@ -115,6 +137,7 @@ impl<'a> Contest<'a> {
             ws,
             history: is_reached.then_some(grown.history),
             written: Vec::new(),
+            ahead: ahead.into(),
             steps: Vec::new(),
         }
     }
@@ -129,24 +152,44 @@ impl<'a> Contest<'a> {
     }
 
     fn run(&mut self, prng: &mut Prng, tally: &mut Tally, calls: usize) -> Result<(), String> {
-        for made in 0..calls {
+        let mut chosen = 0;
+        for _ in 0..calls {
             let ledger = decode(&self.ws).map_err(|damage| format!("unsound: {:?}", damage.0))?;
-            // Whatever a run starts from is written once, and read once.
-            if made == 0 {
+            if !self.ahead.is_empty() {
+                let next = match prng.chance(75) {
+                    true => self.ahead.pop_front(),
+                    false => None,
+                };
+                let call = next.unwrap_or_else(|| read_contested(prng, &ledger));
+                self.step(ledger, &call, tally)?;
+                continue;
+            }
+            // The ledger that has grown is written once, and read once.
+            chosen += 1;
+            if chosen == 1 {
                 let call = write_into(prng, file::length(&ledger));
                 self.step(ledger, &call, tally)?;
                 continue;
             }
-            if made == 1 {
+            if chosen == 2 {
                 self.read_back(prng, tally)?;
+                continue;
+            }
+            if self.history.is_none() && prng.chance(25) {
+                let ledger = self.mark_anew(prng, ledger);
+                let call = choose_poll(prng, &ledger, &self.style);
+                self.step(ledger, &call, tally)?;
                 continue;
             }
             let call = choose(prng, &ledger, &self.style, &self.written);
             match prng.below(100) {
                 0..=3 => {
                     let resized = any_length(prng, &self.ws);
+                    if resized.len() == WORDS_WITHOUT_MARKS {
+                        tally.add(LENGTH_WITHOUT_MARKS);
+                    }
                     let verdict = decode_any(&resized);
-                    self.both("other length", &resized, verdict, &call, tally)?;
+                    self.both("other length", &resized, &verdict, &call, tally)?;
                 }
                 4..=38 => self.damaged(prng, &call, tally)?,
                 _ => self.step(ledger, &call, tally)?,
@@ -155,21 +198,33 @@ impl<'a> Contest<'a> {
         self.check_laws(tally)
     }
 
+    /// Other marks on words that no history reaches: a poll leaves none to be
+    /// given by the next one.
+    fn mark_anew(&mut self, prng: &mut Prng, mut ledger: Ledger) -> Ledger {
+        scramble_marks(prng, &mut ledger);
+        self.ws = words_of(&ledger);
+        self.steps.push(Step::Marked(self.ws.clone()));
+        ledger
+    }
+
     /// A call on the run's own words.
     fn step(&mut self, ledger: Ledger, call: &Call, tally: &mut Tally) -> Result<(), String> {
         let before = self.ws.clone();
-        let made = self.both("own words", &before, Ok(ledger), call, tally)?;
+        let verdict = Ok(ledger);
+        let made = self.both("own words", &before, &verdict, call, tally)?;
         self.ws = made.words;
         let (number, value) = made.our_answer;
         if number != 0 {
             return Ok(());
         }
+        if let (Ok(before), true) = (&verdict, Moment::is_one(call)) {
+            let after = ledger_of(&self.ws);
+            tally.add_events(&Moment::new(call, before, &after), self.history.is_some());
+        }
         match (call, &mut self.history) {
             // Whatever was before, an opening starts a history.
             (Call::Open(setting), history) => {
-                history
-                    .get_or_insert_with(History::default)
-                    .opened(setting.a);
+                history.get_or_insert_with(History::default).opened(setting);
                 self.style.setting = *setting;
             }
             (
@@ -195,7 +250,8 @@ impl<'a> Contest<'a> {
     }
 
     /// The file of the run's words, read into any other words. It leads back
-    /// to every word that a history led to.
+    /// to every word that a history led to but the marks: those are what comes
+    /// of all bookings before all polls.
     fn read_back(&mut self, prng: &mut Prng, tally: &mut Tally) -> Result<(), String> {
         let call = Call::ReadFirst(self.written.clone());
         let before = match prng.below(3) {
@@ -203,10 +259,22 @@ impl<'a> Contest<'a> {
             1 => (0..WORDS).map(|_| prng.draw() as u16).collect(),
             _ => Damaged::any(prng, &self.ws).words,
         };
-        let made = self.both("read back", &before, decode(&before), &call, tally)?;
-        if self.history.is_some() && made.words != self.ws {
-            let (words, meant) = (words_text(&made.words), words_text(&self.ws));
-            return Err(format!("a file read back gives {words}and not {meant}"));
+        let verdict = decode(&before);
+        let made = self.both("read back", &before, &verdict, &call, tally)?;
+        if self.history.is_some() {
+            if without_marks(&made.words) != without_marks(&self.ws) {
+                let (words, meant) = (words_text(&made.words), words_text(&self.ws));
+                return Err(format!("a file read back gives {words}and not {meant}"));
+            }
+            let (led_to, read) = (ledger_of(&self.ws), ledger_of(&made.words));
+            let marked = (0..read.bookings.len()).filter(|&b| led_to.bookings[b].is_marked);
+            let lost: Vec<usize> = marked.filter(|&b| !read.bookings[b].is_marked).collect();
+            if !lost.is_empty() {
+                tally.add(MARK_LOST);
+            }
+            if lost.iter().any(|&b| read.has_marked_rival(b)) {
+                tally.add(HANDED_ON);
+            }
         }
         tally.add(READ_BACK);
         Ok(())
@@ -222,7 +290,7 @@ impl<'a> Contest<'a> {
         } = Damaged::any(prng, &self.ws);
         let verdict = decode(&words);
         let answer = self
-            .both("damaged", &words, verdict, call, tally)?
+            .both("damaged", &words, &verdict, call, tally)?
             .our_answer;
         let (Some(place), false) = (place, call.is_opening()) else {
             return Ok(());
@@ -244,19 +312,19 @@ impl<'a> Contest<'a> {
         &mut self,
         note: &'static str,
         before: &[u16],
-        verdict: Verdict,
+        verdict: &Verdict,
         call: &Call,
         tally: &mut Tally,
     ) -> Result<Made, String> {
         let made = Made::by(self.ours, self.theirs, before, call);
-        self.steps.push(Step {
+        self.steps.push(Step::Made {
             note,
             call: call.clone(),
             ours: made.our_answer,
             theirs: made.their_answer,
         });
-        made.check(before, call, &verdict)?;
-        tally.add_call(call, made.our_answer, &verdict, &made.words);
+        made.check(before, call, verdict)?;
+        tally.add_call(call, made.our_answer, verdict, &made.words);
         Ok(made)
     }
 
@@ -279,7 +347,7 @@ impl<'a> Contest<'a> {
                 "another answer to accepted {name}, as the run ends"
             ));
         }
-        match &self.history {
+        match &mut self.history {
             Some(history) => history.check(&picture),
             None => check_accepted_once(&picture.rows),
         }
@@ -291,23 +359,35 @@ impl<'a> Contest<'a> {
 
 impl Display for Step {
     fn fmt(&self, f: &mut Formatter) -> fmt::Result {
-        let Step {
-            note,
-            call,
-            ours,
-            theirs,
-        } = self;
-        writeln!(f, "{note} {call:?}: ours {ours:?}, theirs {theirs:?}")
+        match self {
+            Step::Made {
+                note,
+                call,
+                ours,
+                theirs,
+            } => writeln!(f, "{note} {call:?}: ours {ours:?}, theirs {theirs:?}"),
+            Step::Marked(ws) => write!(f, "other marks: {}", words_text(ws)),
+        }
     }
 }
 
-/// Words of another length, at times one whose low sixteen bits are right.
+fn without_marks(ws: &[u16]) -> Vec<u16> {
+    let mut others = ws.to_vec();
+    for b in 0..BOOKINGS {
+        others[record(b) + MARK] = 0;
+    }
+    others
+}
+
+/// Words of another length, at times one whose low sixteen bits are right, or
+/// that of words without marks.
 fn any_length(prng: &mut Prng, ws: &[u16]) -> Vec<u16> {
     let length = match prng.below(10) {
         0 => 0,
         1 => 1,
-        2..=4 => WORDS - 1,
-        5..=7 => WORDS + 1,
+        2..=3 => WORDS - 1,
+        4..=5 => WORDS + 1,
+        6..=7 => WORDS_WITHOUT_MARKS,
         8 => prng.pick(&[8, 20, 2 * WORDS, 65536 + WORDS]),
         _ => prng.below(2 * WORDS),
     };
@@ -345,6 +425,9 @@ mod tests {
             Plant::MissingOrdinalAtLastRecord,
             Plant::ConfidenceBoundAmongSlots,
             Plant::CounterBoundAmongRecords,
+            Plant::MarkChargedToLowest,
+            Plant::MarkChargedToHighest,
+            Plant::MarkTwiceAmongSlots,
         ] {
             let both = Planted(Some(plant));
             let (_, difference) = compare(&both, &both, 10_000, 1);
@@ -354,6 +437,16 @@ mod tests {
         }
         let (_, difference) = compare(&Planted(None), &Planted(None), 2000, 1);
         assert!(difference.is_none());
+    }
+
+    /// Likewise marks that both give, keep or read wrongly.
+    #[test]
+    fn a_wrong_mark_of_both_is_found() {
+        for plant in Plant::MARKS {
+            let both = Planted(Some(plant));
+            let (_, difference) = compare(&both, &both, 10_000, 1);
+            assert!(difference.is_some(), "{plant:?}");
+        }
     }
 
     /// Likewise a file that both write wrongly, a buffer or words that both

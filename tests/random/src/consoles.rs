@@ -1,15 +1,21 @@
 //! Console against console: what our program prints for an input, byte by
 //! byte against the second program, and the laws on every list printed.
 
+use crate::call::{Call, Face};
 use crate::compare::Difference;
 use crate::flaw::Flaw;
+use crate::old_rule;
+use crate::planted::{Plant, Planted};
 use crate::prng::Prng;
 use crate::tally::Tally;
 use crate::text::{input, kind_of, Kind};
 use second::command::{parse, Command};
-use second::console::{lines, run, Console, BAD_LINE, LONGEST, TOO_LONG};
+use second::console::{lines, run, Console, BAD_LINE, LIST_HEADER, LONGEST, TOO_LONG};
 use second::laws::{History, Picture};
+use second::layout::{record, STATE, WORDS};
+use second::ledger::Reading;
 use second::refusal::Refusal;
+use second::setting::Setting;
 use std::io::{ErrorKind, Read, Write};
 use std::path::PathBuf;
 use std::process::{Command as Process, Stdio};
@@ -138,8 +144,8 @@ fn walk(input: &[u8], tally: &mut Tally) -> Result<(), String> {
         match (&printed[..], command) {
             (BAD_LINE, _) | (_, None) => tally.add(BAD_LINE.trim_end()),
             (text, _) if text.starts_with("refused") => tally.add(text.trim_end()),
-            (_, Some(Command::Open([_, a, ..]))) => {
-                history.opened(a);
+            (_, Some(Command::Open([k, a, beta1, beta2]))) => {
+                history.opened(&Setting { k, a, beta1, beta2 });
                 tally.add("open taken");
             }
             (
@@ -167,6 +173,14 @@ fn walk(input: &[u8], tally: &mut Tally) -> Result<(), String> {
                 if accepted.count() > 0 {
                     tally.add(ACCEPTED);
                 }
+                let ledger = console.ledger().expect("it was listed");
+                for (row, by_old_rule) in picture.rows.iter().zip(old_rule::accepted(ledger)) {
+                    match (row.is_accepted, by_old_rule) {
+                        (true, false) => tally.add(KEPT),
+                        (false, true) => tally.add(WITHHELD),
+                        _ => (),
+                    }
+                }
                 if picture.rows.len() == second::layout::BOOKINGS {
                     tally.add(FULL);
                 }
@@ -179,6 +193,8 @@ fn walk(input: &[u8], tally: &mut Tally) -> Result<(), String> {
 const LONGEST_TAKEN: &str = "input of the longest length";
 const NO_LINE_FEED: &str = "input without a final line feed";
 const ACCEPTED: &str = "list with accepted bookings";
+const KEPT: &str = "row accepted for its mark alone";
+const WITHHELD: &str = "row not accepted for another's mark alone";
 const FULL: &str = "list of a full ledger";
 
 fn kind_seen(kind: Kind) -> String {
@@ -196,7 +212,7 @@ pub fn missing(tally: &Tally) -> Vec<String> {
     let kinds = Kind::ALL.into_iter().map(kind_seen);
     let flaws = Flaw::ALL.into_iter().map(flaw_seen);
     let refusals = (2..=Refusal::VoteByte.number()).map(|number| format!("refused {number}"));
-    let calls = crate::call::Call::lines().map(|kind| format!("{kind} taken"));
+    let calls = Call::lines().map(|kind| format!("{kind} taken"));
     let others = [
         "list taken",
         BAD_LINE.trim_end(),
@@ -204,6 +220,8 @@ pub fn missing(tally: &Tally) -> Vec<String> {
         LONGEST_TAKEN,
         NO_LINE_FEED,
         ACCEPTED,
+        KEPT,
+        WITHHELD,
         FULL,
     ];
     let all = kinds.chain(flaws).chain(refusals).chain(calls);
@@ -220,6 +238,73 @@ pub struct Misread {
 impl Program for Misread {
     fn output(&self, input: &[u8]) -> Result<Vec<u8>, String> {
         Ok(run(&(self.read)(input)))
+    }
+}
+
+/// A console with an error in how it gives, keeps or reads marks.
+pub struct Mismarked(pub Plant);
+
+impl Program for Mismarked {
+    fn output(&self, input: &[u8]) -> Result<Vec<u8>, String> {
+        if input.len() > LONGEST {
+            return Ok(TOO_LONG.into());
+        }
+        let face = Planted(Some(self.0));
+        let (mut ws, mut out) = (vec![0; WORDS], String::new());
+        for line in lines(input) {
+            print(&face, &mut ws, line, &mut out);
+        }
+        Ok(out.into_bytes())
+    }
+}
+
+/// What a console prints for a line, by calls on words.
+fn print(face: &Planted, ws: &mut [u16], line: &[u8], out: &mut String) {
+    let Some(command) = parse(line) else {
+        return out.push_str(BAD_LINE);
+    };
+    let is_list = command == Command::List;
+    let call = match command {
+        Command::Open([k, a, beta1, beta2]) => Call::Open(Setting { k, a, beta1, beta2 }),
+        Command::Book {
+            name,
+            slot,
+            parents,
+        } => Call::Book {
+            name,
+            slot,
+            parents,
+        },
+        Command::Poll { name, votes } => Call::Poll { name, votes },
+        Command::Read(reading, name) => Call::Read(reading, name),
+        // It is refused or taken for every name that is booked.
+        Command::List => Call::Read(Reading::Accepted, 0),
+    };
+    match face.call(ws, &mut [], &call) {
+        (0, _) if is_list => list(face, ws, out),
+        (0, _) if call.is_change() => (),
+        (0, value) => out.push_str(&format!("{value}\n")),
+        (number, _) => out.push_str(&format!("refused {number}\n")),
+    }
+}
+
+fn list(face: &Planted, ws: &mut [u16], out: &mut String) {
+    let accepted = |name| {
+        face.call(
+            &mut ws.to_vec(),
+            &mut [],
+            &Call::Read(Reading::Accepted, name),
+        )
+    };
+    let picture = Picture::of_words(ws, |name| accepted(name) == (0, 1));
+    out.push_str(LIST_HEADER);
+    for (b, row) in picture.rows.iter().enumerate() {
+        let state = ws[record(b) + STATE];
+        let [preferred, accepted] = [row.is_preferred, row.is_accepted].map(u8::from);
+        let (slot, confidence) = (row.slot, row.confidence);
+        out.push_str(&format!(
+            "{b} {slot} {state} {confidence} {preferred} {accepted}\n"
+        ));
     }
 }
 

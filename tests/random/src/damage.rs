@@ -23,6 +23,15 @@ pub enum Kind {
     OrdinalThrice,
     /// Two records hold one ordinal above p: both break the rule.
     OrdinalAboveTwice,
+    /// A slot without marks has two.
+    MarkPair,
+    /// A booking gets a mark whose slot has one at a higher number, which is
+    /// charged with it.
+    MarkOfHigher,
+    /// Three bookings of a slot have marks.
+    MarkThrice,
+    /// A record from n on has a mark, and nothing else.
+    MarkUnused,
     /// A chit's state is lost. What counted it is above the bound then, and
     /// that is the genesis wherever a history led.
     ChitLost,
@@ -44,12 +53,13 @@ impl Kind {
         Kind::Breaks(Broken::PollsAboveBookings),
         Kind::Breaks(Broken::HeaderRestNotZero),
     ];
-    pub const RECORDS: [Kind; 26] = [
+    pub const RECORDS: [Kind; 33] = [
         Kind::Breaks(Broken::GenesisName),
         Kind::Breaks(Broken::GenesisSlot),
         Kind::Breaks(Broken::GenesisParents),
         Kind::Breaks(Broken::GenesisState),
         Kind::Breaks(Broken::GenesisOrdinal),
+        Kind::Breaks(Broken::GenesisUnmarked),
         Kind::Breaks(Broken::NameTwice),
         Kind::Breaks(Broken::SlotOutside),
         Kind::Breaks(Broken::NoParent),
@@ -62,12 +72,18 @@ impl Kind {
         Kind::Breaks(Broken::OrdinalAbovePolls),
         Kind::Breaks(Broken::OrdinalTwice),
         Kind::Breaks(Broken::OrdinalMissing),
+        Kind::Breaks(Broken::MarkOutside),
+        Kind::Breaks(Broken::MarkTwice),
         Kind::Breaks(Broken::UnusedRecordNotZero),
         Kind::Breaks(Broken::ConfidenceAboveChits),
         Kind::NameThrice,
         Kind::NameOfHigher,
         Kind::OrdinalThrice,
         Kind::OrdinalAboveTwice,
+        Kind::MarkPair,
+        Kind::MarkOfHigher,
+        Kind::MarkThrice,
+        Kind::MarkUnused,
         Kind::ChitLost,
         Kind::BookingMore,
         Kind::BookingFewer,
@@ -82,6 +98,15 @@ impl Kind {
         Kind::BookingMoved,
     ];
 
+    /// Those that have a place only where a slot has several bookings, and
+    /// mostly a mark: without a share of their own they would be rare.
+    const MARKS: [Kind; 4] = [
+        Kind::Breaks(Broken::MarkTwice),
+        Kind::MarkPair,
+        Kind::MarkOfHigher,
+        Kind::MarkThrice,
+    ];
+
     pub fn all() -> impl Iterator<Item = Kind> {
         (Kind::HEADER.into_iter())
             .chain(Kind::RECORDS)
@@ -91,7 +116,7 @@ impl Kind {
     /// Does this damage stay what it is whatever steady damage is done
     /// beside it? Then the lowest of their places is named. What writes
     /// states or ordinals, or moves names and bookings about, may mend other
-    /// damage or break more.
+    /// damage or break more; so may a good mark in a row that is not charged.
     fn is_steady(self) -> bool {
         match self {
             Kind::Breaks(broken) => !matches!(
@@ -104,7 +129,7 @@ impl Kind {
                     | Broken::OrdinalTwice
                     | Broken::OrdinalMissing
             ),
-            Kind::NameThrice | Kind::SlotEmptied => true,
+            Kind::NameThrice | Kind::MarkUnused | Kind::SlotEmptied => true,
             _ => false,
         }
     }
@@ -165,6 +190,8 @@ impl Damaged {
             // Only a full ledger has the number 512 to be named.
             let kind = if sound[N] == BOOKINGS as u16 && prng.chance(30) {
                 Kind::Breaks(Broken::OrdinalMissing)
+            } else if prng.chance(10) {
+                prng.pick(&Kind::MARKS)
             } else {
                 Kind::any(prng)
             };
@@ -283,6 +310,29 @@ impl Target<'_> {
                 self.poll(high, above);
                 Some(Place::Record(low))
             }
+            Kind::MarkPair => {
+                let [low, high] = self.rivals(|marked| marked.is_empty())?;
+                self.mark(&[low, high]);
+                Some(Place::Record(high))
+            }
+            Kind::MarkOfHigher => {
+                let marks = self.slot_marks();
+                let lower = self.any_of(|target, b| marks[target.slot(b)] > Some(b))?;
+                self.mark(&[lower]);
+                marks[self.slot(lower)].map(Place::Record)
+            }
+            Kind::MarkThrice => {
+                // With the mark that the slot has, if it has one.
+                let rivals: [usize; 3] = self.rivals(|_| true)?;
+                self.mark(&rivals);
+                let s = self.slot(rivals[0]);
+                let marked: Vec<usize> = self.marked(s).collect();
+                Some(Place::Record(marked[1]))
+            }
+            Kind::MarkUnused => {
+                let b = self.unused()?;
+                self.field(b, MARK, &[1, 1, 2, 65535])
+            }
             Kind::ChitLost => self.chit_lost(),
             Kind::BookingMore => {
                 (self.n < BOOKINGS).then_some(())?;
@@ -304,7 +354,9 @@ impl Target<'_> {
                 let b = self.booking()?;
                 let from = self.slot(b);
                 let to = self.prng.between(1, SLOTS - 1);
-                (to != from).then_some(())?;
+                // Two marks would meet there, and a record be charged.
+                let is_second = self.is_marked(b) && self.marked(to).next().is_some();
+                (to != from && !is_second).then_some(())?;
                 self.ws[record(b) + SLOT] = to as u16;
                 Some(Place::Slot(from.min(to)))
             }
@@ -334,6 +386,7 @@ impl Target<'_> {
             }
             Broken::GenesisState => self.field(0, STATE, &[0, 2, 3, 257]),
             Broken::GenesisOrdinal => self.genesis_ordinal(),
+            Broken::GenesisUnmarked => self.field(0, MARK, &[0, 0, 2, 65535]),
             Broken::NameTwice => {
                 let [low, high] = self.records(0)?;
                 self.copy_name(low, high);
@@ -350,11 +403,20 @@ impl Target<'_> {
             | Broken::OrdinalAbovePolls
             | Broken::OrdinalTwice
             | Broken::OrdinalMissing => self.ordinals(broken),
+            Broken::MarkOutside => {
+                let b = self.prng.below(self.n);
+                self.field(b, MARK, &[2, 2, 3, 256, 257, 65535])
+            }
+            Broken::MarkTwice => {
+                // One above the mark that a slot has.
+                let marks = self.slot_marks();
+                let is_higher = |mark: Option<usize>, b| mark.is_some() && mark < Some(b);
+                let b = self.any_of(|target, b| is_higher(marks[target.slot(b)], b))?;
+                self.mark(&[b]);
+                Some(Place::Record(b))
+            }
             Broken::UnusedRecordNotZero => {
-                (self.n < BOOKINGS).then_some(())?;
-                let last = BOOKINGS - 1;
-                let any = self.prng.between(self.n, last);
-                let b = self.prng.pick(&[self.n, any, last]);
+                let b = self.unused()?;
                 let word = self.prng.below(RECORD_WORDS);
                 self.field(b, word, &[1, 2, 65535])
             }
@@ -404,6 +466,58 @@ impl Target<'_> {
 
     fn slot(&self, b: usize) -> usize {
         usize::from(self.ws[record(b) + SLOT])
+    }
+
+    fn is_marked(&self, b: usize) -> bool {
+        self.ws[record(b) + MARK] == 1
+    }
+
+    /// Who has a mark in this slot, in rising number.
+    fn marked(&self, s: usize) -> impl Iterator<Item = usize> + '_ {
+        (0..self.n).filter(move |&b| self.slot(b) == s && self.is_marked(b))
+    }
+
+    /// Each slot's mark, if it has one.
+    fn slot_marks(&self) -> Vec<Option<usize>> {
+        let mut marks = vec![None; SLOTS];
+        for b in (0..self.n).filter(|&b| self.is_marked(b)) {
+            marks[self.slot(b)] = Some(b);
+        }
+        marks
+    }
+
+    fn mark(&mut self, bookings: &[usize]) {
+        for &b in bookings {
+            self.ws[record(b) + MARK] = 1;
+        }
+    }
+
+    /// So many bookings of one slot, in rising number, of a slot whose marks
+    /// are as they are meant to be.
+    fn rivals<const COUNT: usize>(
+        &mut self,
+        is_meant: impl Fn(&[usize]) -> bool,
+    ) -> Option<[usize; COUNT]> {
+        let mut slots = vec![Vec::new(); SLOTS];
+        for b in 1..self.n {
+            slots[self.slot(b)].push(b);
+        }
+        slots.retain(|bookings| {
+            let marked = bookings.iter().copied().filter(|&b| self.is_marked(b));
+            bookings.len() >= COUNT && is_meant(&marked.collect::<Vec<_>>())
+        });
+        let slot = (!slots.is_empty()).then(|| self.prng.pick(&slots))?;
+        let mut some: [usize; COUNT] = self.prng.sample(&slot, COUNT).try_into().ok()?;
+        some.sort();
+        Some(some)
+    }
+
+    /// A record from n on: the first, the last, or one between.
+    fn unused(&mut self) -> Option<usize> {
+        (self.n < BOOKINGS).then_some(())?;
+        let last = BOOKINGS - 1;
+        let any = self.prng.between(self.n, last);
+        Some(self.prng.pick(&[self.n, any, last]))
     }
 
     fn chits(&self) -> u16 {

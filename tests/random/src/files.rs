@@ -13,6 +13,7 @@ use crate::draft::Draft;
 use crate::fault::Fault;
 use crate::grow::{grow, grow_longest, Style};
 use crate::made::Made;
+use crate::planted::WORDS_WITHOUT_MARKS;
 use crate::prng::Prng;
 use crate::spoil::{other_byte, Kind};
 use crate::tally::{bad_for, Tally};
@@ -79,6 +80,7 @@ pub fn missing(tally: &Tally) -> Vec<String> {
     let faults = Fault::ALL.into_iter().map(bad_for);
     let others = [
         FULL,
+        MARKED,
         INTO_LAST,
         INTO_ZEROS,
         INTO_ANY,
@@ -100,6 +102,7 @@ pub fn missing(tally: &Tally) -> Vec<String> {
 const GOOD: &str = "good: ";
 const BAD: &str = "bad: ";
 const FULL: &str = "a good file of 512 bookings";
+const MARKED: &str = "a good file that leads to acceptance";
 const INTO_LAST: &str = "into the ledger read last";
 const INTO_ZEROS: &str = "into zeros";
 const INTO_ANY: &str = "into any words";
@@ -125,7 +128,7 @@ fn round(prng: &mut Prng, run: usize) -> Vec<Case> {
         (true, 2) => grow_longest(prng, style),
         (true, less) => grow(prng, style, BOOKINGS - less),
         (false, _) => {
-            let n = prng.pick(&[1, 2, 2, 3, 3, 4, 5, 6, 7]);
+            let n = prng.pick(&[1, 2, 2, 3, 3, 4, 5, 6, 7, 10]);
             grow(prng, style, n)
         }
     };
@@ -209,7 +212,10 @@ impl Contest<'_> {
         }
         let mut history = History::default();
         history.handed_over(&parse(file).expect("the file was taken"));
-        let picture = Picture::of_words(self.words, |_| false);
+        let picture = Picture::of_marks(self.words);
+        if picture.rows.iter().skip(1).any(|row| row.is_accepted) {
+            self.tally.add(MARKED);
+        }
         let kept = history.check(&picture);
         kept.map_err(|breach| format!("law {:?}: {}", breach.law, breach.said))
     }
@@ -246,7 +252,8 @@ fn any_words(prng: &mut Prng, last: &[u16]) -> (&'static str, Vec<u16>) {
         }
         7 => {
             let mut resized = last.to_vec();
-            let length = prng.pick(&[0, WORDS - 1, WORDS + 1, 2 * WORDS]);
+            let lengths = [0, WORDS_WITHOUT_MARKS, WORDS - 1, WORDS + 1, 2 * WORDS];
+            let length = prng.pick(&lengths);
             resized.resize(length, 0);
             (INTO_OTHER_LENGTH, resized)
         }

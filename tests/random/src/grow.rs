@@ -56,12 +56,16 @@ pub struct Style {
     pub slots: u16,
     /// How many of a hundred polls succeed.
     pub success: usize,
+    /// How many of a hundred bookings are rivals of one that is accepted.
+    pub late_rivals: usize,
 }
 
 impl Style {
     pub fn any(prng: &mut Prng) -> Style {
-        if prng.chance(20) {
-            return Style::accepting(prng);
+        match prng.below(100) {
+            0..20 => return Style::accepting(prng),
+            20..45 => return Style::contested(prng),
+            _ => (),
         }
         Style {
             setting: good_setting(prng),
@@ -69,6 +73,21 @@ impl Style {
             names: prng.pick(&Names::ALL),
             slots: prng.pick(&[1, 2, 3, 8, 40, 255, 255]),
             success: prng.pick(&[30, 60, 90, 100]),
+            late_rivals: prng.pick(&[0, 5, 20]),
+        }
+    }
+
+    /// Small bounds, and rivals that come when somebody is accepted.
+    pub fn contested(prng: &mut Prng) -> Style {
+        let beta1 = prng.word(1, 2);
+        let beta2 = beta1 + prng.word(0, 2);
+        Style {
+            setting: setting(1, 1, beta1, beta2),
+            shape: prng.pick(&[Shape::Chain, Shape::Chain, Shape::Diamonds, Shape::Any]),
+            names: prng.pick(&Names::ALL),
+            slots: prng.pick(&[30, 255]),
+            success: 95,
+            late_rivals: 40,
         }
     }
 
@@ -87,6 +106,7 @@ impl Style {
             names: prng.pick(&Names::ALL),
             slots: prng.pick(&[5, 30, 255]),
             success: 95,
+            late_rivals: prng.pick(&[0, 5, 20]),
         }
     }
 
@@ -94,12 +114,18 @@ impl Style {
         prng.word(1, self.slots)
     }
 
+    /// The votes of a poll, which succeeds as often as the style says.
+    pub fn votes(&self, prng: &mut Prng) -> Vec<u8> {
+        let is_success = prng.chance(self.success);
+        self.votes_for(prng, is_success)
+    }
+
     /// The votes of a poll, just enough of them yes or just too few, or far
     /// from the border.
-    pub fn votes(&self, prng: &mut Prng) -> Vec<u8> {
+    fn votes_for(&self, prng: &mut Prng, is_success: bool) -> Vec<u8> {
         let (k, a) = (usize::from(self.setting.k), usize::from(self.setting.a));
         let at_border = prng.chance(50);
-        let yes = match (prng.chance(self.success), at_border) {
+        let yes = match (is_success, at_border) {
             (true, true) => a,
             (true, false) => prng.between(a, k),
             (false, true) => a - 1,
@@ -150,6 +176,34 @@ impl Grown {
     pub fn words(&self) -> Vec<u16> {
         words_of(&self.ledger)
     }
+
+    /// The same as it was before its last calls, and those, which are still
+    /// to be made.
+    pub fn before_last(mut self, count: usize) -> (Grown, Vec<Call>) {
+        let first = self.calls.len().saturating_sub(count).max(1);
+        let last = self.calls.split_off(first);
+        self.ledger = Ledger::open(self.style.setting).expect("the style's setting is good");
+        self.history.opened(&self.style.setting);
+        for call in &self.calls[1..] {
+            let result = match call {
+                Call::Book {
+                    name,
+                    slot,
+                    parents,
+                } => {
+                    self.history.booked(*name, *slot, parents);
+                    self.ledger.book(*name, *slot, parents)
+                }
+                Call::Poll { name, votes } => {
+                    self.history.polled(*name, votes);
+                    self.ledger.poll(*name, votes)
+                }
+                _ => unreachable!("a ledger grows by bookings and polls"),
+            };
+            result.expect("it was taken before");
+        }
+        (self, last)
+    }
 }
 
 pub fn words_of(ledger: &Ledger) -> Vec<u16> {
@@ -176,7 +230,7 @@ pub fn any_size(prng: &mut Prng, run: usize) -> usize {
 pub fn grow(prng: &mut Prng, style: Style, n: usize) -> Grown {
     let ledger = Ledger::open(style.setting).expect("the style's setting is good");
     let mut history = History::default();
-    history.opened(style.setting.a);
+    history.opened(&style.setting);
     let calls = vec![Call::Open(style.setting)];
     let mut grown = Grown {
         style,
@@ -184,8 +238,19 @@ pub fn grow(prng: &mut Prng, style: Style, n: usize) -> Grown {
         history,
         calls,
     };
-    let polls = prng.pick(&[0, 30, 60, 90]);
+    let polls = match grown.style.late_rivals {
+        0..=20 => prng.pick(&[0, 30, 60, 90]),
+        _ => 90,
+    };
     while grown.ledger.bookings.len() < n {
+        if prng.chance(grown.style.late_rivals) {
+            if prng.chance(60) {
+                add_late_rival(prng, &mut grown, n);
+            } else {
+                add_waiting_child(prng, &mut grown, n);
+            }
+            continue;
+        }
         add_booking(prng, &mut grown);
         if prng.chance(polls) {
             add_poll(prng, &mut grown);
@@ -203,8 +268,12 @@ pub fn grow(prng: &mut Prng, style: Style, n: usize) -> Grown {
 /// Grows a ledger with the longest day file: full, with as many parents as
 /// there can be, and all of it polled.
 pub fn grow_longest(prng: &mut Prng, style: Style) -> Grown {
-    let shape = Shape::Most;
-    let mut grown = grow(prng, Style { shape, ..style }, BOOKINGS);
+    let style = Style {
+        shape: Shape::Most,
+        late_rivals: 0,
+        ..style
+    };
+    let mut grown = grow(prng, style, BOOKINGS);
     while usize::from(grown.ledger.polls) < BOOKINGS - 1 {
         add_poll(prng, &mut grown);
     }
@@ -212,14 +281,131 @@ pub fn grow_longest(prng: &mut Prng, style: Style) -> Grown {
 }
 
 fn add_booking(prng: &mut Prng, grown: &mut Grown) {
+    let booked: Vec<u64> = grown.ledger.bookings.iter().map(|b| b.name).collect();
+    let parents = grown.style.shape.parents(prng, &booked);
+    let slot = grown.style.slot(prng);
+    book(prng, grown, slot, parents);
+}
+
+/// A rival for somebody who is accepted, with bookings on it that are polled:
+/// mostly as many as it needs to overtake, if there is room below `n`. It is
+/// new, or one that was there before, perhaps with a lower number. Where nobody
+/// is accepted, any booking.
+fn add_late_rival(prng: &mut Prng, grown: &mut Grown, n: usize) {
+    let ledger = &grown.ledger;
+    let Some(accepted) = any_accepted(prng, ledger) else {
+        return add_booking(prng, grown);
+    };
+    let slot = ledger.bookings[accepted].slot;
+    let others = ledger.slot_of(accepted).bookings.iter();
+    let others: Vec<usize> = others.copied().filter(|&b| b != accepted).collect();
+    let rival = if !others.is_empty() && prng.chance(50) {
+        // The lowest is mostly below the one that is accepted.
+        let any = prng.pick(&others);
+        ledger.bookings[prng.pick(&[others[0], any])].name
+    } else {
+        let parents = parents_beside(prng, ledger, accepted);
+        book(prng, grown, slot, parents)
+    };
+    build_on(prng, grown, rival, accepted, n);
+}
+
+/// Bookings on a rival of one that is accepted, each of them polled.
+fn build_on(prng: &mut Prng, grown: &mut Grown, rival: u64, accepted: usize, n: usize) {
+    let ledger = &grown.ledger;
+    let slot = ledger.bookings[accepted].slot;
+    let [behind, ahead] = [ledger.numbers[&rival], accepted].map(|b| &ledger.bookings[b]);
+    // More chits than the other has, and so many that the counter, which is 0
+    // with the first of them, is above β2.
+    let lead = ahead.confidence.saturating_sub(behind.confidence) + 1;
+    let needed = usize::from(lead.max(ledger.setting.beta2 + 2));
+    let chits = match prng.below(4) {
+        0 => prng.below(4),
+        1 => needed - 1,
+        _ => needed,
+    };
+    let room = (n - ledger.bookings.len()).min(MOST_ON_A_RIVAL);
+    let is_waiting = behind.state == State::Waiting;
+    if is_waiting {
+        poll(prng, grown, rival);
+    }
+    let mut latest = rival;
+    for _ in 0..chits.saturating_sub(is_waiting.into()).min(room) {
+        let other = 1 + (slot + prng.word(0, 253)) % 255;
+        let parent = prng.pick(&[rival, latest]);
+        latest = book(prng, grown, other, vec![parent]);
+        poll(prng, grown, latest);
+    }
+}
+
+/// A booking with a rival, and one on it that stands alone and has chits
+/// enough to be accepted as soon as its parent is. That takes polls of others
+/// that stand on the parent: the last of them brings a mark to the child, which
+/// it does not stand on. Where bounds or room are too small, any booking.
+fn add_waiting_child(prng: &mut Prng, grown: &mut Grown, n: usize) {
+    let Setting { beta1, beta2, .. } = grown.style.setting;
+    let ledger = &grown.ledger;
+    let free = (1..=255).filter(|slot| !ledger.slots.contains_key(slot));
+    let free = prng.sample(&free.collect::<Vec<u16>>(), 2);
+    let needed = usize::from(beta2) + 4;
+    let is_room = ledger.bookings.len() + needed <= n && needed <= MOST_ON_A_RIVAL;
+    let (&[slot, own], true) = (&free[..], beta1 < beta2 && is_room) else {
+        return add_booking(prng, grown);
+    };
+    let mut rivals = [(); 2].map(|()| book(prng, grown, slot, vec![0]));
+    // The second becomes last by its first chit, which counts for nothing.
+    let is_second = prng.chance(50);
+    if is_second {
+        rivals.swap(0, 1);
+    }
+    let [parent, rival] = rivals;
+    let child = book(prng, grown, own, vec![parent]);
+    let mut polls = vec![child];
+    for chits in 1..=beta2 + u16::from(is_second) {
+        let stands_on = if chits <= beta1 { child } else { parent };
+        let other = 1 + (slot + prng.word(0, 253)) % 255;
+        polls.push(book(prng, grown, other, vec![stands_on]));
+    }
+    for name in polls {
+        poll(prng, grown, name);
+    }
+    if prng.chance(40) {
+        let accepted = grown.ledger.numbers[&parent];
+        build_on(prng, grown, rival, accepted, n);
+    }
+}
+
+/// The most bookings that a late rival gets at once.
+const MOST_ON_A_RIVAL: usize = 12;
+
+/// Somebody who is accepted beside the genesis, mostly the one with the least
+/// confidence, which is overtaken soonest.
+pub fn any_accepted(prng: &mut Prng, ledger: &Ledger) -> Option<usize> {
+    let is_marked = |b: &usize| ledger.bookings[*b].is_marked;
+    let accepted: Vec<usize> = (1..ledger.bookings.len()).filter(is_marked).collect();
+    let weakest = (accepted.iter().copied()).min_by_key(|&b| ledger.bookings[b].confidence)?;
+    let any = prng.pick(&accepted);
+    Some(prng.pick(&[weakest, weakest, any]))
+}
+
+/// The genesis, or what a booking stands on itself: not the booking.
+pub fn parents_beside(prng: &mut Prng, ledger: &Ledger, b: usize) -> Vec<u64> {
+    if prng.chance(50) {
+        return vec![0];
+    }
+    let parents = ledger.bookings[b].parents.iter();
+    parents
+        .map(|&parent| ledger.bookings[parent].name)
+        .collect()
+}
+
+/// A booking that is taken.
+fn book(prng: &mut Prng, grown: &mut Grown, slot: u16, parents: Vec<u64>) -> u64 {
     let ledger = &mut grown.ledger;
     let name = grown
         .style
         .names
         .fresh(prng, |name| ledger.numbers.contains_key(&name));
-    let booked: Vec<u64> = ledger.bookings.iter().map(|b| b.name).collect();
-    let parents = grown.style.shape.parents(prng, &booked);
-    let slot = grown.style.slot(prng);
     ledger
         .book(name, slot, &parents)
         .expect("a fresh name on booked parents is taken");
@@ -229,6 +415,7 @@ fn add_booking(prng: &mut Prng, grown: &mut Grown) {
         slot,
         parents,
     });
+    name
 }
 
 fn add_poll(prng: &mut Prng, grown: &mut Grown) {
@@ -241,10 +428,71 @@ fn add_poll(prng: &mut Prng, grown: &mut Grown) {
     }
     let name = prng.pick(&waiting);
     let votes = grown.style.votes(prng);
+    take_poll(grown, name, votes);
+}
+
+/// A poll that mostly succeeds, whatever the style says.
+fn poll(prng: &mut Prng, grown: &mut Grown, name: u64) {
+    let is_success = prng.chance(95);
+    let votes = grown.style.votes_for(prng, is_success);
+    take_poll(grown, name, votes);
+}
+
+fn take_poll(grown: &mut Grown, name: u64, votes: Vec<u8>) {
     grown
         .ledger
         .poll(name, &votes)
         .expect("k votes on a waiting booking are taken");
     grown.history.polled(name, &votes);
     grown.calls.push(Call::Poll { name, votes });
+}
+
+#[cfg(test)]
+mod tests {
+    use super::*;
+    use crate::old_rule;
+
+    /// Where rivals come late, marks often part from acceptance as it was, in
+    /// both ways.
+    #[test]
+    fn late_rivals_part_marks_from_the_old_rule() {
+        let mut prng = Prng::new(1);
+        let (mut kept, mut withheld) = (0, 0);
+        for _ in 0..100 {
+            let style = Style::contested(&mut prng);
+            let ledger = grow(&mut prng, style, 40).ledger;
+            let old = old_rule::accepted(&ledger);
+            let pairs = || ledger.bookings.iter().map(|b| b.is_marked).zip(&old);
+            kept += usize::from(pairs().any(|(is_marked, &old)| is_marked && !old));
+            withheld += usize::from(pairs().any(|(is_marked, &old)| !is_marked && old));
+        }
+        assert!(kept > 60 && withheld > 30, "{kept} and {withheld} of 100");
+    }
+
+    /// What is held back leads to the same ledger.
+    #[test]
+    fn last_calls_can_be_made_later() {
+        let mut prng = Prng::new(2);
+        for count in 0..60 {
+            let style = Style::any(&mut prng);
+            let grown = grow(&mut prng, style, 20);
+            let (words, calls) = (grown.words(), grown.calls.clone());
+            let (mut earlier, last) = grown.before_last(count);
+            assert_eq!([&earlier.calls[..], &last].concat(), calls);
+            assert_eq!(last.len(), count.min(calls.len() - 1));
+            for call in last {
+                match call {
+                    Call::Book {
+                        name,
+                        slot,
+                        parents,
+                    } => earlier.ledger.book(name, slot, &parents),
+                    Call::Poll { name, votes } => earlier.ledger.poll(name, &votes),
+                    _ => unreachable!("a ledger grows by bookings and polls"),
+                }
+                .expect("it was taken before");
+            }
+            assert_eq!(earlier.words(), words);
+        }
+    }
 }

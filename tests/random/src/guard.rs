@@ -75,7 +75,7 @@ mod tests {
 
     #[test]
     fn a_word_on_either_side_shows() {
-        for length in [0, 1, 7176] {
+        for length in [0, 1, 7688] {
             shows_a_write_on_either_side(length, |word: u16| word ^ 1);
         }
     }

@@ -8,12 +8,14 @@
 //! - `grow`: ledgers that a history reaches
 //! - `scramble`: sound ledgers that no history reaches
 //! - `damage`: words that break sentences of soundness, and where
+//! - `old_rule`: who would be accepted if there were no marks
 //!
 //! Day files:
 //! - `file`: the day file held to the words
 //! - `draft`: a file as anybody may write one down
 //! - `spoil`: good files spoiled
 //! - `fault`: why a file is bad
+//! - `replayed`: the marks that reading one has to make
 //!
 //! Call against call:
 //! - `call`: a call, and who answers it
@@ -24,9 +26,11 @@
 //! - `files`: many files, read by both
 //! - `tally`: what the runs have reached
 //! - `written`: the same of day files
+//! - `events`: the same of marks
 //! - `station`: the product through its C face
 //! - `relay`: the same in a program beside this one
 //! - `planted`: a copy of the rules with errors to be found
+//! - `mismarked`: the errors in how it gives marks
 //! - `misjudged`: the errors in what it says of damage
 //! - `miswritten`: the errors in the day files that it writes
 //! - `misread`: the errors in how it reads them
@@ -44,6 +48,7 @@ pub mod compare;
 pub mod consoles;
 pub mod damage;
 pub mod draft;
+pub mod events;
 pub mod fault;
 pub mod file;
 pub mod files;
@@ -52,12 +57,15 @@ pub mod grow;
 pub mod guard;
 pub mod made;
 pub mod misjudged;
+pub mod mismarked;
 pub mod misread;
 pub mod miswritten;
 pub mod names;
+pub mod old_rule;
 pub mod planted;
 pub mod prng;
 pub mod relay;
+pub mod replayed;
 pub mod report;
 pub mod scramble;
 pub mod spoil;

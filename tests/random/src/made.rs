@@ -5,10 +5,12 @@ use crate::call::{Call, Face};
 use crate::fault::Fault;
 use crate::file;
 use crate::guard::Guarded;
+use crate::replayed;
 use crate::report::{bytes_text, words_text};
 use second::codec::decode;
-use second::layout::WORDS;
-use second::ledger::Ledger;
+use second::layout::{record, MARK, WORDS};
+use second::ledger::{Ledger, Reading};
+use second::marking::{check_booking, check_opening, check_poll, is_marked};
 use second::sound::Damage;
 use second::words::Answer;
 
@@ -90,11 +92,35 @@ impl Made {
             !may_change || decode(&self.words).is_ok(),
             "a taken call left unsound words",
         )?;
+        self.check_marks(before, call, verdict)?;
         match call {
             Call::WriteFirst(_) => self.check_written(lent, before, verdict),
             Call::ReadFirst(file) => self.check_read(file, before),
             _ => Ok(()),
         }
+    }
+
+    /// Did a taken call do with marks what it may and has to, whoever else did
+    /// the same?
+    fn check_marks(&self, before: &[u16], call: &Call, verdict: &Verdict) -> Result<(), String> {
+        if self.our_answer.0 != 0 {
+            return Ok(());
+        }
+        let after = &self.words;
+        let kept = match (call, verdict) {
+            (Call::Open(_), _) => check_opening(after),
+            (Call::Book { .. }, Ok(_)) => check_booking(before, after),
+            (Call::Poll { .. }, Ok(_)) => check_poll(before, after),
+            (Call::Read(Reading::Accepted, name), Ok(ledger)) => {
+                let is_accepted = is_marked(before, ledger.numbers[name]);
+                return match self.our_answer.1 == i64::from(is_accepted) {
+                    true => Ok(()),
+                    false => Err("another acceptance than the mark says".to_string()),
+                };
+            }
+            _ => Ok(()),
+        };
+        kept.map_err(|breach| format!("law {:?}: {}", breach.law, breach.said))
     }
 
     /// Did writing the file of these words do what it has to, whoever else
@@ -145,6 +171,12 @@ impl Made {
         }
         if meant.0 == 0 {
             file::check(file, &self.words)?;
+            let marks = replayed::marks(&self.words).into_iter().enumerate();
+            for (b, is_marked) in marks {
+                if self.words[record(b) + MARK] != u16::from(is_marked) {
+                    return Err(format!("the file's polls lead to another mark of {b}"));
+                }
+            }
         }
         Ok(())
     }

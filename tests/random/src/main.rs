@@ -2,7 +2,7 @@
 
 use random::call::{Face, Second};
 use random::compare::{self, Difference};
-use random::consoles::{self, Executable, MISREAD};
+use random::consoles::{self, Executable, Mismarked, MISREAD};
 use random::files;
 use random::planted::{Plant, Planted};
 use random::relay::Relay;
@@ -188,6 +188,12 @@ impl Order {
             let (tally, difference) = files::compare(&planted, &Second, self.count, self.seed);
             let found = difference.map(|_| format!("after {} files", tally.calls));
             judge(format!("{plant:?}, files"), found);
+        }
+        for plant in Plant::shown() {
+            let (_, difference) =
+                consoles::compare(&Mismarked(plant), 4 * consoles::ENOUGH, self.seed);
+            let found = difference.map(|found| format!("by input {}", found.run));
+            judge(format!("{plant:?}, consoles"), found);
         }
         for planted in &MISREAD {
             let (_, difference) = consoles::compare(planted, 4 * consoles::ENOUGH, self.seed);

@@ -66,7 +66,12 @@ fn charged(plant: Option<Plant>, ws: &[u16], place: Place, broken: Broken) -> Op
     };
     let n = usize::from(ws[N]);
     let name_holders = |b| holders(ws, b, NAME..SLOT);
-    let ordinal_holders = |b| holders(ws, b, ORDINAL..RECORD_WORDS);
+    let ordinal_holders = |b| holders(ws, b, ORDINAL..MARK);
+    let mark_holders = |b| -> Vec<usize> {
+        let mut marked = holders(ws, b, SLOT..PARENT);
+        marked.retain(|&holder| ws[record(holder) + MARK] == 1);
+        marked
+    };
     match (plant, broken, place) {
         (Plant::CounterBoundUntested, Broken::CounterAboveChits, _) => None,
         (Plant::MissingOrdinalUntested, Broken::OrdinalMissing, _) => None,
@@ -91,6 +96,22 @@ fn charged(plant: Option<Plant>, ws: &[u16], place: Place, broken: Broken) -> Op
         (Plant::OrdinalAboveChargedToOthers, Broken::OrdinalAbovePolls, Place::Record(b)) => {
             let holders = ordinal_holders(b);
             (holders.len() == 1 || holders[0] != b).then_some(place)
+        }
+        (Plant::MarkOutsideUntested, Broken::MarkOutside, _) => None,
+        (Plant::GenesisMarkUntested, Broken::GenesisUnmarked, _) => None,
+        (Plant::MarkTwiceUntested, Broken::MarkTwice, _) => None,
+        (Plant::UnusedMarkUntested, Broken::UnusedRecordNotZero, Place::Record(b)) => {
+            let others = &ws[record(b)..record(b) + MARK];
+            others.iter().any(|&word| word != 0).then_some(place)
+        }
+        (Plant::MarkChargedToLowest, Broken::MarkTwice, Place::Record(b)) => {
+            mark_holders(b).first().copied().map(Place::Record)
+        }
+        (Plant::MarkChargedToHighest, Broken::MarkTwice, Place::Record(b)) => {
+            mark_holders(b).last().copied().map(Place::Record)
+        }
+        (Plant::MarkTwiceAmongSlots, Broken::MarkTwice, Place::Record(b)) => {
+            Some(Place::Slot(ws[record(b) + SLOT].into()))
         }
         (Plant::ConfidenceBoundAmongSlots, Broken::ConfidenceAboveChits, Place::Record(b)) => {
             let slot = usize::from(ws[record(b) + SLOT]);

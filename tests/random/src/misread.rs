@@ -139,6 +139,11 @@ impl Reader<'_> {
             let votes = vec![u8::from(is_success); ledger.setting.k.into()];
             (ledger.poll(name, &votes)).map_err(|_| Refusal::File)?;
         }
+        if self.has(Plant::MarksNotMade) {
+            for booking in &mut ledger.bookings[1..] {
+                booking.is_marked = false;
+            }
+        }
         if self.has(Plant::ConfidencesNotMade) {
             for booking in &mut ledger.bookings {
                 booking.confidence = 0;

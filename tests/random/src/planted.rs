@@ -3,8 +3,10 @@
 
 use crate::call::{Call, Face};
 use crate::misjudged;
+use crate::mismarked;
 use crate::misread;
 use crate::miswritten;
+use crate::old_rule;
 use second::codec::{encode, ledger_of};
 use second::day::SHORTEST_FILE;
 use second::layout::*;
@@ -28,6 +30,22 @@ pub enum Plant {
     EqualUnknownParentsAreTwice,
     LongerWorkspaceTaken,
     RefusedPollMovesP,
+    WordsWithoutMarksTaken,
+    // marks
+    GenesisUnmarkedAtOpening,
+    MarkDroppedByRival,
+    LoneMarkDroppedByRival,
+    MarksAfterBookingToo,
+    TwoMarksInASlot,
+    HigherMarkOverlooked,
+    OvertakerTakesMark,
+    ParentMarksOfPassUncounted,
+    ParentsByOldRule,
+    MarksOnlyInAncestry,
+    MarksBeforePoll,
+    MarksMadeAnew,
+    FailedPollMarksNobody,
+    AcceptedByOldRule,
     // what is damaged, and what is said of it
     CounterBoundUntested,
     MissingOrdinalUntested,
@@ -41,6 +59,13 @@ pub enum Plant {
     OrdinalAboveChargedToOthers,
     ConfidenceBoundAmongSlots,
     CounterBoundAmongRecords,
+    MarkOutsideUntested,
+    GenesisMarkUntested,
+    UnusedMarkUntested,
+    MarkTwiceUntested,
+    MarkChargedToLowest,
+    MarkChargedToHighest,
+    MarkTwiceAmongSlots,
     ChitsOfBrokenRecordsUncounted,
     HighestRowNamed,
     RecordsBeforeHeader,
@@ -92,6 +117,8 @@ pub enum Plant {
     OutcomeTurnedRound,
     OutcomeAboveOneIsFailure,
     ConfidencesNotMade,
+    MarksNotMade,
+    MarksKeptOverReading,
     OpenedBeforeFileIsJudged,
     OldRecordsKept,
     DamagedWordsNotReadInto,
@@ -100,7 +127,7 @@ pub enum Plant {
 }
 
 impl Plant {
-    const VOTE: [Plant; 11] = [
+    const VOTE: [Plant; 12] = [
         Plant::NoTakesFromYes,
         Plant::NoReadAsYes,
         Plant::AncestorRaisedPerPath,
@@ -112,8 +139,25 @@ impl Plant {
         Plant::EqualUnknownParentsAreTwice,
         Plant::LongerWorkspaceTaken,
         Plant::RefusedPollMovesP,
+        Plant::WordsWithoutMarksTaken,
     ];
-    const DAMAGE: [Plant; 20] = [
+    pub const MARKS: [Plant; 14] = [
+        Plant::GenesisUnmarkedAtOpening,
+        Plant::MarkDroppedByRival,
+        Plant::LoneMarkDroppedByRival,
+        Plant::MarksAfterBookingToo,
+        Plant::TwoMarksInASlot,
+        Plant::HigherMarkOverlooked,
+        Plant::OvertakerTakesMark,
+        Plant::ParentMarksOfPassUncounted,
+        Plant::ParentsByOldRule,
+        Plant::MarksOnlyInAncestry,
+        Plant::MarksBeforePoll,
+        Plant::MarksMadeAnew,
+        Plant::FailedPollMarksNobody,
+        Plant::AcceptedByOldRule,
+    ];
+    const DAMAGE: [Plant; 27] = [
         Plant::CounterBoundUntested,
         Plant::MissingOrdinalUntested,
         Plant::MissingOrdinalOfFullUntested,
@@ -126,6 +170,13 @@ impl Plant {
         Plant::OrdinalAboveChargedToOthers,
         Plant::ConfidenceBoundAmongSlots,
         Plant::CounterBoundAmongRecords,
+        Plant::MarkOutsideUntested,
+        Plant::GenesisMarkUntested,
+        Plant::UnusedMarkUntested,
+        Plant::MarkTwiceUntested,
+        Plant::MarkChargedToLowest,
+        Plant::MarkChargedToHighest,
+        Plant::MarkTwiceAmongSlots,
         Plant::ChitsOfBrokenRecordsUncounted,
         Plant::HighestRowNamed,
         Plant::RecordsBeforeHeader,
@@ -161,7 +212,7 @@ impl Plant {
         Plant::LengthKeptInHeader,
     ];
 
-    pub const READING: [Plant; 24] = [
+    pub const READING: [Plant; 26] = [
         Plant::TrailingBytesTaken,
         Plant::MissingBytesAreZero,
         Plant::FileLengthInSixteenBits,
@@ -181,6 +232,8 @@ impl Plant {
         Plant::OutcomeTurnedRound,
         Plant::OutcomeAboveOneIsFailure,
         Plant::ConfidencesNotMade,
+        Plant::MarksNotMade,
+        Plant::MarksKeptOverReading,
         Plant::OpenedBeforeFileIsJudged,
         Plant::OldRecordsKept,
         Plant::DamagedWordsNotReadInto,
@@ -188,14 +241,25 @@ impl Plant {
         Plant::ReadingHasFileLength,
     ];
 
+    /// Those of marks that a history can show: there a failed poll finds nobody
+    /// to mark, and a booking neither.
+    pub fn shown() -> impl Iterator<Item = Plant> {
+        let hidden = [Plant::MarksAfterBookingToo, Plant::FailedPollMarksNobody];
+        (Plant::MARKS.into_iter()).filter(move |plant| !hidden.contains(plant))
+    }
+
     pub fn all() -> impl Iterator<Item = Plant> {
         (Plant::VOTE.into_iter())
+            .chain(Plant::MARKS)
             .chain(Plant::DAMAGE)
             .chain(Plant::FILE)
             .chain(Plant::WRITING)
             .chain(Plant::READING)
     }
 }
+
+/// The length of a workspace before records had marks.
+pub const WORDS_WITHOUT_MARKS: usize = 7_176;
 
 /// The copy, with one error or none.
 pub struct Planted(pub Option<Plant>);
@@ -215,6 +279,13 @@ impl Planted {
     }
 
     fn answer(&self, ws: &mut [u16], out: &mut [u8], call: &Call) -> Result<i64, Refusal> {
+        if ws.len() == WORDS_WITHOUT_MARKS && self.has(Plant::WordsWithoutMarksTaken) {
+            let mut longer = ws.to_vec();
+            longer.resize(WORDS, 0);
+            let result = self.answer(&mut longer, out, call);
+            ws.copy_from_slice(&longer[..WORDS_WITHOUT_MARKS]);
+            return result;
+        }
         let is_long = ws.len() > WORDS && self.has(Plant::LongerWorkspaceTaken);
         if ws.len() != WORDS && !is_long {
             if self.has(Plant::BadFileBeforeLength) && matches!(call, Call::ReadFirst(_)) {
@@ -224,7 +295,9 @@ impl Planted {
         }
         let ws = &mut ws[..WORDS];
         if let Call::Open(setting) = call {
-            encode(&Ledger::open(*setting)?, ws);
+            let mut ledger = Ledger::open(*setting)?;
+            mismarked::open(self.0, &mut ledger);
+            encode(&ledger, ws);
             return Ok(0);
         }
         if let Call::ReadFirst(_) = call {
@@ -246,6 +319,7 @@ impl Planted {
                     return Err(Refusal::ParentTwice);
                 }
                 result?;
+                mismarked::book(self.0, &mut ledger);
                 encode(&ledger, ws);
                 Ok(0)
             }
@@ -258,7 +332,11 @@ impl Planted {
             }
             Call::Read(Reading::Accepted, name) => {
                 let b = ledger.number(*name)?;
-                Ok(i64::from(self.accepted(&ledger)[b]))
+                Ok(i64::from(if self.has(Plant::AcceptedByOldRule) {
+                    old_rule::accepted(&ledger)[b]
+                } else {
+                    ledger.bookings[b].is_marked
+                }))
             }
             Call::Read(reading, name) => ledger.read(*reading, *name),
             Call::WriteFirst(_) => {
@@ -295,6 +373,9 @@ impl Planted {
         if self.has(Plant::OldRecordsKept) {
             let unused = record(ledger.bookings.len())..ENTRIES_START;
             ws[unused.clone()].copy_from_slice(&before[unused]);
+        }
+        if self.has(Plant::MarksKeptOverReading) && misjudged::refusal(None, &before).is_none() {
+            keep_marks(&before, ws);
         }
         Ok(if self.has(Plant::ReadingHasFileLength) {
             file.len() as i64
@@ -351,11 +432,25 @@ impl Planted {
             ledger.polls += 1;
         }
         ledger.bookings[b].ordinal = ledger.polls;
-        if self.yes(votes) < i64::from(ledger.setting.a) {
-            ledger.bookings[b].state = State::Polled;
-            return Ok(());
+        let is_success = self.yes(votes) >= i64::from(ledger.setting.a);
+        ledger.bookings[b].state = if is_success {
+            State::Chit
+        } else {
+            State::Polled
+        };
+        if self.has(Plant::MarksBeforePoll) {
+            mismarked::poll(self.0, ledger, b, is_success);
         }
-        ledger.bookings[b].state = State::Chit;
+        if is_success {
+            self.succeed(ledger, b);
+        }
+        if !self.has(Plant::MarksBeforePoll) {
+            mismarked::poll(self.0, ledger, b, is_success);
+        }
+        Ok(())
+    }
+
+    fn succeed(&self, ledger: &mut Ledger, b: usize) {
         let members = self.members(ledger, b);
         if self.has(Plant::RaisedAfterComparing) {
             self.follow(ledger, &members);
@@ -364,7 +459,6 @@ impl Planted {
             raise(ledger, &members);
             self.follow(ledger, &members);
         }
-        Ok(())
     }
 
     fn yes(&self, votes: &[u8]) -> i64 {
@@ -416,21 +510,15 @@ impl Planted {
             }
         }
     }
+}
 
-    /// Every booking's acceptance, parents before children.
-    fn accepted(&self, ledger: &Ledger) -> Vec<bool> {
-        let mut accepted = vec![true];
-        for (b, booking) in ledger.bookings.iter().enumerate().skip(1) {
-            let slot = ledger.slot_of(b);
-            let is_own = slot.preferred == b && slot.last == b;
-            let by_beta2 = slot.counter > ledger.setting.beta2
-                && (is_own || self.has(Plant::AcceptedForBothRivals));
-            let on_accepted = booking.parents.iter().all(|&parent| accepted[parent])
-                || self.has(Plant::AcceptedWithoutParents);
-            let by_beta1 = slot.counter > ledger.setting.beta1 && slot.bookings.len() == 1;
-            accepted.push(by_beta2 || by_beta1 && on_accepted);
+/// Who had a mark before the reading, and has the name still, keeps it.
+fn keep_marks(before: &[u16], ws: &mut [u16]) {
+    for b in 0..usize::from(before[N].min(ws[N])) {
+        let name = record(b) + NAME..record(b) + SLOT;
+        if ws[name.clone()] == before[name] {
+            ws[record(b) + MARK] = before[record(b) + MARK];
         }
-        accepted
     }
 }
 

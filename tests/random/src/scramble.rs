@@ -10,6 +10,7 @@ pub fn scramble(prng: &mut Prng, ledger: &mut Ledger) {
     scramble_polls(prng, ledger);
     scramble_confidences(prng, ledger);
     scramble_slots(prng, ledger);
+    scramble_marks(prng, ledger);
 }
 
 /// Any bookings polled, in any order, with any outcome.
@@ -73,6 +74,20 @@ fn scramble_slots(prng: &mut Prng, ledger: &mut Ledger) {
     }
 }
 
+/// Any one booking of a slot marked, or none, earned or not. The genesis is.
+pub fn scramble_marks(prng: &mut Prng, ledger: &mut Ledger) {
+    let percent = prng.pick(&[0, 20, 60, 100]);
+    for booking in &mut ledger.bookings[1..] {
+        booking.is_marked = false;
+    }
+    for slot in ledger.slots.values() {
+        if prng.chance(percent) {
+            let b = prng.pick(&slot.bookings);
+            ledger.bookings[b].is_marked = true;
+        }
+    }
+}
+
 #[cfg(test)]
 mod tests {
     use super::*;
@@ -82,12 +97,19 @@ mod tests {
     #[test]
     fn scrambled_ledgers_are_sound() {
         let mut prng = Prng::new(1);
+        let (mut unearned, mut passed_over) = (0, 0);
         for run in 0..200 {
             let style = Style::any(&mut prng);
             let n = any_size(&mut prng, run);
             let mut ledger = grow(&mut prng, style, n).ledger;
             scramble(&mut prng, &mut ledger);
+            for (b, booking) in ledger.bookings.iter().enumerate() {
+                unearned += usize::from(booking.is_marked && !ledger.earns_mark(b));
+                passed_over += usize::from(!booking.is_marked && ledger.earns_mark(b));
+            }
             assert_eq!(decode(&words_of(&ledger)), Ok(ledger));
         }
+        // Neither marks that nobody earned nor those left out are few.
+        assert!(unearned > 500 && passed_over > 500);
     }
 }

@@ -173,7 +173,7 @@ impl Kind {
                     let ends = [0, 1, 1 - poll.outcome, 2, 255, 256, 257];
                     poll.outcome = end_of_range(prng, poll.outcome, &ends);
                 } else {
-                    let ends = [0, 1, n - 1, n, n + 1, 511, 512];
+                    let ends = [0, 0, 1, n - 1, n, n + 1, 511, 512];
                     poll.booking = end_of_range(prng, poll.booking, &ends);
                 }
             }
@@ -364,7 +364,7 @@ mod tests {
         let mut met = BTreeSet::new();
         for kind in Kind::ALL {
             let (mut good, mut bad) = (0, 0);
-            for _ in 0..400 {
+            for _ in 0..1200 {
                 let style = Style::any(&mut prng);
                 let n = prng.between(1, 7);
                 let ledger = grow(&mut prng, style, n).ledger;

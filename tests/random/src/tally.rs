@@ -3,6 +3,7 @@
 
 use crate::call::{Buffer, Call};
 use crate::damage::Kind;
+use crate::events::{Moment, EVENTS, UNREACHED_EVENTS};
 use crate::fault::Fault;
 use crate::file;
 use crate::made::Verdict;
@@ -145,6 +146,14 @@ impl Tally {
         }
     }
 
+    /// Counts what a taken call showed of marks, on a ledger that a history
+    /// led to or on another.
+    pub fn add_events(&mut self, moment: &Moment, is_reached: bool) {
+        for event in moment.events(is_reached) {
+            self.add(event);
+        }
+    }
+
     /// What should have been seen and was not.
     pub fn missing(&self) -> Vec<String> {
         let refusals = (1..=Refusal::HIGHEST).map(refused);
@@ -159,6 +168,12 @@ impl Tally {
             .chain(ROOMS.into_iter().map(|(case, _)| case.to_string()))
             .chain(FILES.into_iter().map(|(case, _)| case.to_string()))
             .chain(FILES.into_iter().map(|(case, _)| read(case)))
+            .chain(EVENTS.into_iter().map(|(event, _)| event.to_string()))
+            .chain(
+                UNREACHED_EVENTS
+                    .into_iter()
+                    .map(|(event, _)| event.to_string()),
+            )
             .chain(Fault::ALL.into_iter().map(bad_for))
             .chain(damaged.clone().map(hides_short_buffer))
             .chain(damaged.map(keeps_long_buffer));
@@ -177,6 +192,9 @@ impl Tally {
             LAWS,
             TOLD,
             READ_BACK,
+            MARK_LOST,
+            HANDED_ON,
+            LENGTH_WITHOUT_MARKS,
             HIDES_BAD_FILE,
             KEEPS_GOOD_FILE,
             GOOD_ON_SOUND,
@@ -205,6 +223,9 @@ pub const UNREACHED: &str = "ledgers no history reaches";
 pub const LAWS: &str = "laws checked";
 pub const TOLD: &str = "places told by the damage";
 pub const READ_BACK: &str = "files read back";
+pub const MARK_LOST: &str = "files read back, a mark lost";
+pub const HANDED_ON: &str = "files read back, a mark at a rival";
+pub const LENGTH_WITHOUT_MARKS: &str = "words as many as without marks";
 const HIDES_BAD_FILE: &str = "1 hides 17";
 const KEEPS_GOOD_FILE: &str = "1 with a good file";
 const GOOD_ON_SOUND: &str = "a good file into sound words";
@@ -253,7 +274,7 @@ pub fn bad_for(fault: Fault) -> String {
 type Case = (&'static str, fn(&Damage) -> bool);
 
 /// Which row is named, and what is broken beside it.
-const CASES: [Case; 18] = [
+const CASES: [Case; 21] = [
     ("damage: two sentences", |damage| damage.0.len() == 2),
     ("damage: three sentences or more", |damage| {
         damage.0.len() > 2
@@ -297,6 +318,16 @@ const CASES: [Case; 18] = [
     }),
     ("14 names 512", |damage| {
         damage.lowest() == Some(Place::Record(BOOKINGS))
+    }),
+    ("14 names the genesis for its mark", |damage| {
+        is_named_for(damage, Broken::GenesisUnmarked)
+    }),
+    ("14 names the second mark of a slot", |damage| {
+        is_named_for(damage, Broken::MarkTwice)
+    }),
+    ("damage: three marks in a slot, or two in two", |damage| {
+        let twice = |breach: &&(Place, Broken)| breach.1 == Broken::MarkTwice;
+        damage.0.iter().filter(twice).count() > 1
     }),
     ("15 names 0", |damage| {
         damage.lowest() == Some(Place::Slot(0))
@@ -407,6 +438,26 @@ mod tests {
             meets(
                 &[(Record(3), Broken::ConfidenceAboveChits)],
                 &["14 names a row above 0 for its confidence"],
+            ),
+            meets(
+                &[(Record(0), Broken::GenesisUnmarked)],
+                &["14 names 0", "14 names the genesis for its mark"],
+            ),
+            meets(
+                &[(Record(3), Broken::MarkTwice)],
+                &["14 names the second mark of a slot"],
+            ),
+            meets(
+                &[
+                    (Record(3), Broken::MarkTwice),
+                    (Record(4), Broken::MarkTwice),
+                ],
+                &[
+                    "damage: two sentences",
+                    "damage: several records",
+                    "14 names the second mark of a slot",
+                    "damage: three marks in a slot, or two in two",
+                ],
             ),
             // It breaks another rule too, and would be named without this.
             meets(

@@ -23,6 +23,8 @@ pub enum Kind {
     OneSlot,
     /// Small bounds that counters pass, by both arms.
     Acceptance,
+    /// Rivals that come when somebody is accepted, and overtake.
+    LateRivals,
     /// All 512 bookings and more.
     Full,
     /// Several ledgers one after another, with refused openings.
@@ -44,13 +46,14 @@ pub enum Kind {
 }
 
 impl Kind {
-    pub const ALL: [Kind; 15] = [
+    pub const ALL: [Kind; 16] = [
         Kind::Ledger,
         Kind::Rivals,
         Kind::Chain,
         Kind::Diamonds,
         Kind::OneSlot,
         Kind::Acceptance,
+        Kind::LateRivals,
         Kind::Full,
         Kind::Reopenings,
         Kind::Unopened,
@@ -151,9 +154,11 @@ fn style_of(prng: &mut Prng, kind: Kind) -> Style {
         Kind::OneSlot => Style {
             shape: prng.pick(&[Shape::Chain, Shape::Diamonds]),
             slots: 1,
+            late_rivals: 0,
             ..any
         },
         Kind::Acceptance => Style::accepting(prng),
+        Kind::LateRivals => Style::contested(prng),
         // Short lines, so that all fit.
         Kind::Full => Style {
             setting: Style::accepting(prng).setting,

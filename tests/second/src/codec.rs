@@ -61,6 +61,7 @@ fn booking_of(words: &[u16]) -> Booking {
         },
         confidence: words[CONFIDENCE],
         ordinal: words[ORDINAL],
+        is_marked: words[MARK] == 1,
     }
 }
 
@@ -84,6 +85,7 @@ pub fn encode(ledger: &Ledger, ws: &mut [u16]) {
         words[STATE] = booking.state as u16;
         words[CONFIDENCE] = booking.confidence;
         words[ORDINAL] = booking.ordinal;
+        words[MARK] = booking.is_marked.into();
     }
     for s in 0..SLOTS {
         let words = match ledger.slots.get(&(s as u16)) {

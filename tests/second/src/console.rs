@@ -8,7 +8,6 @@ use crate::command::{parse, Command};
 use crate::ledger::Ledger;
 use crate::refusal::Refusal;
 use crate::setting::Setting;
-use std::collections::HashMap;
 use std::fmt::Write;
 
 /// The longest input taken, in bytes.
@@ -43,6 +42,11 @@ pub struct Console {
 }
 
 impl Console {
+    /// What the lines have led to, once one has opened it.
+    pub fn ledger(&self) -> Option<&Ledger> {
+        self.ledger.as_ref()
+    }
+
     /// Runs one line and prints its answer.
     pub fn line(&mut self, line: &[u8], out: &mut String) {
         match parse(line) {
@@ -82,7 +86,6 @@ impl Console {
 /// One line for each booking in rising number, under a header.
 fn list(ledger: &Ledger, out: &mut String) {
     out.push_str(LIST_HEADER);
-    let mut known = HashMap::new();
     for (b, booking) in ledger.bookings.iter().enumerate() {
         writeln!(
             out,
@@ -91,7 +94,7 @@ fn list(ledger: &Ledger, out: &mut String) {
             booking.state as u16,
             booking.confidence,
             u8::from(ledger.is_preferred(b)),
-            u8::from(ledger.is_accepted(b, &mut known)),
+            u8::from(booking.is_marked),
         )
         .expect("a string takes text");
     }

@@ -1,13 +1,17 @@
 //! What must hold after every history, checked from outside.
 //!
 //! A `History` is told each taken call since the last taken opening, or
-//! reading of a day file, and nothing else. From it alone it knows what a `Picture` of the ledger (taken
-//! from words, or from a printed list) has to show. It keeps the ancestry of
-//! each booking as the union of its parents' ancestries.
+//! reading of a day file, and nothing else. From it alone it knows what a
+//! `Picture` of the ledger (taken from words, or from a printed list) has to
+//! show. It keeps the ancestry of each booking as the union of its parents'
+//! ancestries, and who was accepted in the pictures that it has seen.
+//! `marking` says what a single call may do to marks.
 
 use crate::console::LIST_HEADER;
 use crate::day::Day;
 use crate::layout::*;
+use crate::ledger::GENESIS;
+use crate::setting::Setting;
 use std::collections::{BTreeMap, HashMap, HashSet};
 
 /// What can be seen of a booking.
@@ -42,6 +46,16 @@ pub enum Law {
     Preferred,
     /// A slot has at most one accepted booking.
     AcceptedOnce,
+    /// More than β1 chits are built on an accepted booking, the genesis
+    /// apart: no counter passes β1 by less.
+    AcceptedByChits,
+    /// Who is accepted stays so until a taken opening or reading.
+    AcceptedStays,
+    /// A mark is given by a poll alone, to one that meets the rule after it
+    /// in a slot that had none.
+    MarkEarned,
+    /// After a poll, whoever meets the rule has a mark, or a rival had one.
+    MarkGiven,
 }
 
 #[derive(Clone, Debug, PartialEq, Eq)]
@@ -50,7 +64,8 @@ pub struct Breach {
     pub said: String,
 }
 
-fn holds(is_kept: bool, law: Law, said: impl FnOnce() -> String) -> Result<(), Breach> {
+/// The breach of a law, unless it is kept.
+pub fn holds(is_kept: bool, law: Law, said: impl FnOnce() -> String) -> Result<(), Breach> {
     if is_kept {
         Ok(())
     } else {
@@ -67,19 +82,25 @@ struct Past {
 /// The taken calls since the last taken opening or reading.
 #[derive(Default)]
 pub struct History {
+    /// Yes votes that a poll needs, and the bound that a lone booking's
+    /// counter has to pass.
     needed: usize,
+    beta1: u16,
     bookings: Vec<Past>,
     numbers: HashMap<u64, usize>,
     polls: usize,
     /// Bookings of successful polls.
     chits: Vec<usize>,
+    /// Those that a picture has shown accepted.
+    accepted: HashSet<usize>,
 }
 
 impl History {
     /// A taken opening: everything before it is forgotten.
-    pub fn opened(&mut self, a: u16) {
+    pub fn opened(&mut self, setting: &Setting) {
         *self = History {
-            needed: usize::from(a),
+            needed: usize::from(setting.a),
+            beta1: setting.beta1,
             ..History::default()
         };
         self.add(0, 0, HashSet::new());
@@ -88,7 +109,7 @@ impl History {
     /// A taken reading of this day's file: everything before it is forgotten,
     /// and the file's polls are the history's first.
     pub fn handed_over(&mut self, day: &Day) {
-        self.opened(day.setting.a);
+        self.opened(&day.setting);
         for booked in &day.bookings {
             self.add_on(booked.name, booked.slot, &booked.parents);
         }
@@ -132,8 +153,9 @@ impl History {
         }
     }
 
-    /// Does the picture show what this history must have led to?
-    pub fn check(&self, picture: &Picture) -> Result<(), Breach> {
+    /// Does the picture show what this history must have led to? Pictures
+    /// are shown in the order in which they were taken.
+    pub fn check(&mut self, picture: &Picture) -> Result<(), Breach> {
         let rows = &picture.rows;
         let slots: Vec<u16> = self.bookings.iter().map(|past| past.slot).collect();
         let seen: Vec<u16> = rows.iter().map(|row| row.slot).collect();
@@ -169,7 +191,27 @@ impl History {
         }
         check_total(rows, self.summed_sizes())?;
         check_preferred(rows)?;
-        check_accepted_once(rows)
+        check_accepted_once(rows)?;
+        self.check_accepted(rows)
+    }
+
+    fn check_accepted(&mut self, rows: &[Row]) -> Result<(), Breach> {
+        let accepted = rows.iter().enumerate().filter(|(_, row)| row.is_accepted);
+        let accepted: HashSet<usize> = accepted.map(|(b, _)| b).collect();
+        for &b in accepted.iter().filter(|&&b| b != GENESIS) {
+            let confidence = rows[b].confidence;
+            holds(confidence > self.beta1, Law::AcceptedByChits, || {
+                format!("booking {b} is accepted with {confidence} chits built on it")
+            })?;
+        }
+        let mut lost = self.accepted.difference(&accepted);
+        if let Some(b) = lost.next() {
+            holds(false, Law::AcceptedStays, || {
+                format!("booking {b} was accepted and is no longer")
+            })?;
+        }
+        self.accepted = accepted;
+        Ok(())
     }
 
     /// The sizes of the successful polls' ancestries, together.
@@ -221,9 +263,18 @@ fn by_slot(rows: &[Row]) -> BTreeMap<u16, Vec<&Row>> {
 }
 
 impl Picture {
-    /// The picture that sound words show. Acceptance stands in no word, so
-    /// the reading is asked for each name.
+    /// The picture that sound words show. Whether a name is accepted is for
+    /// the reading to say, whatever its mark is.
     pub fn of_words(ws: &[u16], mut is_accepted: impl FnMut(u64) -> bool) -> Picture {
+        let mut picture = Picture::of_marks(ws);
+        for (b, row) in picture.rows.iter_mut().enumerate() {
+            row.is_accepted = is_accepted(name_of(&ws[record(b) + NAME..record(b) + SLOT]));
+        }
+        picture
+    }
+
+    /// The same where the mark says it.
+    pub fn of_marks(ws: &[u16]) -> Picture {
         let rows = (0..usize::from(ws[N]))
             .map(|b| {
                 let words = &ws[record(b)..record(b + 1)];
@@ -234,7 +285,7 @@ impl Picture {
                     is_polled: words[STATE] != 0,
                     confidence: words[CONFIDENCE],
                     is_preferred: usize::from(preferred) == b,
-                    is_accepted: is_accepted(name_of(&words[NAME..SLOT])),
+                    is_accepted: words[MARK] == 1,
                 }
             })
             .collect();

@@ -2,13 +2,13 @@
 //!
 //! ```text
 //! header       8 words   n, k, a, β1, β2, p, 0, 0
-//! records    512 × 12    name (4, highest part first), slot, parents (4),
-//!                        state, confidence, ordinal
+//! records    512 × 13    name (4, highest part first), slot, parents (4),
+//!                        state, confidence, ordinal, mark
 //! entries    256 × 4     preferred, last, counter, how many bookings
 //! ```
 
 pub const HEADER_WORDS: usize = 8;
-pub const RECORD_WORDS: usize = 12;
+pub const RECORD_WORDS: usize = 13;
 pub const ENTRY_WORDS: usize = 4;
 
 /// The most bookings, the genesis among them.
@@ -38,6 +38,7 @@ pub const PARENT: usize = 5;
 pub const STATE: usize = 9;
 pub const CONFIDENCE: usize = 10;
 pub const ORDINAL: usize = 11;
+pub const MARK: usize = 12;
 
 /// Words of a slot entry.
 pub const PREFERRED: usize = 0;

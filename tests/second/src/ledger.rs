@@ -27,6 +27,8 @@ pub struct Booking {
     pub state: State,
     pub confidence: u16,
     pub ordinal: u16,
+    /// Accepted once, and from then on.
+    pub is_marked: bool,
 }
 
 #[derive(Clone, Debug, PartialEq, Eq)]
@@ -110,6 +112,7 @@ impl Ledger {
             state: State::Polled,
             confidence: 0,
             ordinal: 0,
+            is_marked: true,
         };
         let own_slot = Slot {
             preferred: GENESIS,
@@ -159,6 +162,7 @@ impl Ledger {
             state: State::Waiting,
             confidence: 0,
             ordinal: 0,
+            is_marked: false,
         });
         self.numbers.insert(name, number);
         // The first booking of a slot is preferred and last; a later one
@@ -196,11 +200,19 @@ impl Ledger {
         self.bookings[b].ordinal = self.polls;
         // Only yes votes are counted: a no takes nothing away.
         let yes = votes.iter().filter(|&&vote| vote == Vote::Yes).count();
-        if yes < usize::from(self.setting.a) {
+        if yes >= usize::from(self.setting.a) {
+            self.bookings[b].state = State::Chit;
+            self.succeed(b);
+        } else {
             self.bookings[b].state = State::Polled;
-            return Ok(());
         }
-        self.bookings[b].state = State::Chit;
+        // Whatever came of the poll, and whoever was polled.
+        self.mark_all();
+        Ok(())
+    }
+
+    /// What success brings to the ancestry of a booking.
+    fn succeed(&mut self, b: usize) {
         let ancestry = self.ancestry(b);
         // All confidences rise before any two are compared.
         for &m in &ancestry {
@@ -209,7 +221,6 @@ impl Ledger {
         for &m in &ancestry {
             self.follow(m);
         }
-        Ok(())
     }
 
     /// A member of a successful poll's ancestry moves its slot: first the
@@ -234,7 +245,7 @@ impl Ledger {
         let b = self.number(name)?;
         Ok(match reading {
             Reading::Query => i64::from(self.ancestry(b).iter().all(|&m| self.is_preferred(m))),
-            Reading::Accepted => i64::from(self.is_accepted(b, &mut HashMap::new())),
+            Reading::Accepted => i64::from(self.bookings[b].is_marked),
             Reading::Lead => self.lead(b),
             Reading::Confidence => i64::from(self.bookings[b].confidence),
             Reading::Size => self.ancestry(b).len() as i64,
@@ -269,28 +280,33 @@ impl Ledger {
         self.slot_of(b).preferred == b
     }
 
-    /// The genesis is accepted. Another booking is accepted by its slot's
-    /// counter above β1 if it stands alone on accepted parents, or by the
+    /// Marks whoever earns it and has no rival with a mark. Parents have
+    /// lower numbers, so that theirs are given before they are asked for.
+    fn mark_all(&mut self) {
+        for b in 0..self.bookings.len() {
+            if self.earns_mark(b) && !self.has_marked_rival(b) {
+                self.bookings[b].is_marked = true;
+            }
+        }
+    }
+
+    /// The genesis earns a mark. Another booking earns one by its slot's
+    /// counter above β1 if it stands alone on marked parents, or by the
     /// counter above β2 if the counter is its own: preferred and last.
-    /// `known` keeps what was decided, for bookings reached by several paths.
-    pub fn is_accepted(&self, b: usize, known: &mut HashMap<usize, bool>) -> bool {
+    pub fn earns_mark(&self, b: usize) -> bool {
         if b == GENESIS {
             return true;
-        }
-        if let Some(&decided) = known.get(&b) {
-            return decided;
         }
         let slot = self.slot_of(b);
         let own = slot.preferred == b && slot.last == b && slot.counter > self.setting.beta2;
         let alone = slot.bookings.len() == 1 && slot.counter > self.setting.beta1;
-        let decided = own
-            || alone
-                && self.bookings[b]
-                    .parents
-                    .iter()
-                    .all(|&parent| self.is_accepted(parent, known));
-        known.insert(b, decided);
-        decided
+        let mut parents = self.bookings[b].parents.iter();
+        own || alone && parents.all(|&parent| self.bookings[parent].is_marked)
+    }
+
+    pub fn has_marked_rival(&self, b: usize) -> bool {
+        let mut bookings = self.slot_of(b).bookings.iter();
+        bookings.any(|&rival| rival != b && self.bookings[rival].is_marked)
     }
 
     /// Confidence over the best rival's, or over 0 without rivals.

@@ -1,7 +1,7 @@
 //! The second program: a ledger of bookings written from the rules alone.
 //!
 //! It shares no code and no plan with the product. The product works on the
-//! lent words in place, with sweeps and marks; this program reads the words
+//! lent words in place, with sweeps and sets of bits; this program reads the words
 //! into maps, walks ancestries by recursion, and writes the words back.
 //!
 //! - `layout`: where each word of the workspace stands
@@ -17,6 +17,7 @@
 //! - `command`: a line of text to a command
 //! - `console`: the text program
 //! - `laws`: what must hold after every history, checked from outside
+//! - `marking`: what a call may do to marks, checked from outside
 
 pub mod codec;
 pub mod command;
@@ -25,6 +26,7 @@ pub mod day;
 pub mod laws;
 pub mod layout;
 pub mod ledger;
+pub mod marking;
 pub mod parse;
 pub mod refusal;
 pub mod replay;

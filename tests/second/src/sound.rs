@@ -26,6 +26,7 @@ pub enum Broken {
     GenesisParents,
     GenesisState,
     GenesisOrdinal,
+    GenesisUnmarked,
     // every other record below n
     NameTwice,
     SlotOutside,
@@ -39,6 +40,8 @@ pub enum Broken {
     OrdinalAbovePolls,
     OrdinalTwice,
     OrdinalMissing,
+    MarkOutside,
+    MarkTwice,
     // records from n on
     UnusedRecordNotZero,
     // slot entries
@@ -52,7 +55,7 @@ pub enum Broken {
 }
 
 impl Broken {
-    pub const ALL: [Broken; 28] = [
+    pub const ALL: [Broken; 31] = [
         Broken::BookingsOutside,
         Broken::SettingBad,
         Broken::PollsAboveBookings,
@@ -62,6 +65,7 @@ impl Broken {
         Broken::GenesisParents,
         Broken::GenesisState,
         Broken::GenesisOrdinal,
+        Broken::GenesisUnmarked,
         Broken::NameTwice,
         Broken::SlotOutside,
         Broken::NoParent,
@@ -74,6 +78,8 @@ impl Broken {
         Broken::OrdinalAbovePolls,
         Broken::OrdinalTwice,
         Broken::OrdinalMissing,
+        Broken::MarkOutside,
+        Broken::MarkTwice,
         Broken::UnusedRecordNotZero,
         Broken::EmptySlotFilled,
         Broken::CountNotTrue,
@@ -188,6 +194,8 @@ struct Together<'a> {
     chits: u16,
     /// The bookings of each slot. One whose slot is none of ours is in none.
     members: Vec<Vec<usize>>,
+    /// The lowest of a slot whose mark is 1.
+    marked: HashMap<u16, usize>,
 }
 
 impl Together<'_> {
@@ -198,6 +206,7 @@ impl Together<'_> {
             by_ordinal: HashMap::new(),
             chits: 0,
             members: vec![Vec::new(); SLOTS],
+            marked: HashMap::new(),
         };
         for b in 0..n {
             let words = &ws[record(b)..record(b + 1)];
@@ -211,6 +220,9 @@ impl Together<'_> {
             }
             if let Some(members) = together.members.get_mut(usize::from(words[SLOT])) {
                 members.push(b);
+                if words[MARK] == 1 {
+                    together.marked.entry(words[SLOT]).or_insert(b);
+                }
             }
         }
         together
@@ -226,9 +238,13 @@ impl Together<'_> {
         };
         let ordinal = words[ORDINAL];
         let is_first = ordinal == 0 || self.by_ordinal[&ordinal] == b;
+        let lowest_marked = self.marked.get(&words[SLOT]);
+        let is_only_mark = words[MARK] != 1 || lowest_marked.is_none_or(|&lowest| lowest == b);
         broken.extend(not_held([
             (ordinal <= self.ws[P], Broken::OrdinalAbovePolls),
             (is_first, Broken::OrdinalTwice),
+            (words[MARK] <= 1, Broken::MarkOutside),
+            (is_only_mark, Broken::MarkTwice),
             (
                 words[CONFIDENCE] <= self.chits,
                 Broken::ConfidenceAboveChits,
@@ -300,5 +316,6 @@ fn judge_genesis(words: &[u16]) -> Vec<Broken> {
         (places.iter().all(|&p| p == UNUSED), Broken::GenesisParents),
         (words[STATE] == 1, Broken::GenesisState),
         (words[ORDINAL] == 0, Broken::GenesisOrdinal),
+        (words[MARK] == 1, Broken::GenesisUnmarked),
     ])
 }

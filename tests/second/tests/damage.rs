@@ -188,6 +188,110 @@ fn a_missing_ordinal_of_a_full_ledger() {
     refused_by(14, 512, Broken::OrdinalMissing, &ws);
 }
 
+fn mark(ws: &mut [u16], bookings: &[usize]) {
+    for &b in bookings {
+        ws[record(b) + MARK] = 1;
+    }
+}
+
+/// Whoever was written to, the higher of two in a slot is charged. Slot 1 of
+/// the chain has 1, 256 and 511, slot 2 has 2 and 257.
+#[test]
+fn two_marks_in_a_slot_are_charged_to_the_higher() {
+    breaks(14, 2, Broken::MarkTwice, |ws| mark(ws, &[1, 2]));
+    for pair in [[1, 256], [1, 511], [256, 511], [2, 257]] {
+        let mut ws = chain(512);
+        mark(&mut ws, &pair[..1]);
+        assert_eq!(accepted(&ws, pair[0] as u64), (0, 1));
+        mark(&mut ws, &pair[1..]);
+        refused_by(14, pair[1] as i64, Broken::MarkTwice, &ws);
+        ws[record(pair[0]) + MARK] = 0;
+        assert_eq!(accepted(&ws, pair[1] as u64), (0, 1));
+    }
+}
+
+#[test]
+fn of_three_marks_in_a_slot_the_second_is_the_lowest_that_breaks_it() {
+    let twice = |b| (Record(b), Broken::MarkTwice);
+    let mut ws = chain(512);
+    mark(&mut ws, &[1, 256, 511]);
+    refused(14, 256, &[twice(256), twice(511)], &ws);
+    // Two slots with too many: the lower of those that are charged.
+    mark(&mut ws, &[2, 257]);
+    refused(14, 256, &[twice(256), twice(257), twice(511)], &ws);
+    ws[record(256) + MARK] = 0;
+    refused(14, 257, &[twice(257), twice(511)], &ws);
+    // A mark that is none is not counted with the others.
+    ws[record(1) + MARK] = 2;
+    let outside = (Record(1), Broken::MarkOutside);
+    refused(14, 1, &[outside, twice(257)], &ws);
+    ws[record(2) + MARK] = 65535;
+    refused(14, 1, &[outside, (Record(2), Broken::MarkOutside)], &ws);
+}
+
+/// The slot is that of the record, wherever it should be.
+#[test]
+fn marks_of_records_in_wrong_slots() {
+    // Booking 3 in slot 0, where the genesis has the mark.
+    let in_slot_0 = [
+        (Record(3), Broken::SlotOutside),
+        (Record(3), Broken::MarkTwice),
+        (Slot(0), Broken::CountNotTrue),
+        (Slot(9), Broken::EmptySlotFilled),
+    ];
+    breaks_all(14, 3, &in_slot_0, |ws| {
+        mark(ws, &[3]);
+        ws[record(3) + SLOT] = 0;
+    });
+    // Two in a slot that is none: no slot has two marks.
+    let in_none = [
+        (Record(3), Broken::SlotOutside),
+        (Record(4), Broken::SlotOutside),
+        (Slot(9), Broken::EmptySlotFilled),
+        (Slot(10), Broken::EmptySlotFilled),
+    ];
+    breaks_all(14, 3, &in_none, |ws| {
+        mark(ws, &[3, 4]);
+        ws[record(3) + SLOT] = 300;
+        ws[record(4) + SLOT] = 300;
+    });
+    // The genesis in slot 10, where 4 has a mark too.
+    let genesis = [
+        (Record(0), Broken::GenesisSlot),
+        (Record(4), Broken::MarkTwice),
+        (Slot(0), Broken::EmptySlotFilled),
+        (Slot(10), Broken::CountNotTrue),
+    ];
+    breaks_all(14, 0, &genesis, |ws| {
+        mark(ws, &[4]);
+        ws[record(0) + SLOT] = 10;
+    });
+}
+
+/// Beside other damage a mark is a word of its record like the others.
+#[test]
+fn marks_among_other_damage() {
+    let all = [
+        (Record(2), Broken::MarkTwice),
+        (Record(4), Broken::MarkOutside),
+        (Record(5), Broken::UnusedRecordNotZero),
+        (Slot(7), Broken::CountNotTrue),
+    ];
+    let mut ws = run_polled(4);
+    ws[entry(7) + COUNT] = 3;
+    refused(15, 7, &all[3..], &ws);
+    mark(&mut ws, &[5]);
+    refused(14, 5, &all[2..], &ws);
+    ws[record(4) + MARK] = 2;
+    refused(14, 4, &all[1..], &ws);
+    mark(&mut ws, &[1, 2]);
+    refused(14, 2, &all, &ws);
+    ws[A] = 1;
+    let mut with_header = vec![(Header, Broken::SettingBad)];
+    with_header.extend(all);
+    refused(2, 0, &with_header, &ws);
+}
+
 /// The bound on confidences is a rule of records, that on counters of slots.
 #[test]
 fn bounds_by_chits_on_both_sides() {
@@ -388,7 +492,14 @@ fn another_length_comes_before_all_damage() {
     let mut ws = run_polled(4);
     ws[entry(7) + COUNT] = 3;
     ws[record(2) + PARENT] = UNUSED;
-    for length in [0, HEADER_WORDS, ENTRIES_START, WORDS - 1, WORDS + 1] {
+    for length in [
+        0,
+        HEADER_WORDS,
+        ENTRIES_START,
+        WORDS_WITHOUT_MARKS,
+        WORDS - 1,
+        WORDS + 1,
+    ] {
         ws.resize(length, 9);
         let before = ws.clone();
         assert_eq!(book(&mut ws, 9, 1, &[0]), (1, 0));
@@ -428,13 +539,14 @@ fn a_header_over_zeroes() {
     let mut broken = vec![
         (Record(0), Broken::GenesisParents),
         (Record(0), Broken::GenesisState),
+        (Record(0), Broken::GenesisUnmarked),
         (Slot(0), Broken::CountNotTrue),
     ];
     broken.extend((1..256).map(|s| (Slot(s), Broken::EmptySlotFilled)));
     refused(14, 0, &broken, &ws);
     // With the genesis in place only slots are left to name.
     ws[record(0)..record(1)].copy_from_slice(&opened(3, 2, 1, 2)[record(0)..record(1)]);
-    refused(15, 0, &broken[2..], &ws);
+    refused(15, 0, &broken[3..], &ws);
     ws[entry(0) + COUNT] = 1;
-    refused(15, 1, &broken[3..], &ws);
+    refused(15, 1, &broken[4..], &ws);
 }

@@ -153,12 +153,15 @@ fn ordinals_in_another_order() {
     writes_sections(&ws, [RUN_SETTING, RUN_BOOKED, polls]);
 }
 
-/// Confidences and slot entries are no part of the file.
+/// Confidences, marks and slot entries are no part of the file.
 #[test]
 fn what_the_votes_led_to_is_not_written() {
     let mut ws = run_polled(4);
     for b in 0..5 {
         ws[record(b) + CONFIDENCE] = 3 - b as u16 % 4;
+    }
+    for b in [2, 3, 4] {
+        ws[record(b) + MARK] = 1;
     }
     ws[entry(7)..entry(8)].copy_from_slice(&[1, 2, 3, 2]);
     let polls = "0004  0002 0001  0003 0000  0004 0001  0001 0001";
@@ -229,7 +232,8 @@ fn lengths_of_files() {
 
 #[test]
 fn refusal_1_before_the_others() {
-    for length in [0, 1, HEADER_WORDS, WORDS - 1, WORDS + 1, 2 * WORDS] {
+    let lengths = [0, 1, HEADER_WORDS, WORDS - 1, WORDS + 1, 2 * WORDS];
+    for length in lengths.into_iter().chain([WORDS_WITHOUT_MARKS]) {
         let mut ws = run_polled(4);
         ws.resize(length, 0);
         for room in [0, 87, 88, LONGEST_FILE] {
@@ -250,6 +254,8 @@ fn refusals_2_14_and_15_before_16() {
         // three chits bound confidences and counters
         (record(3) + CONFIDENCE, 3, 4, (14, 3)),
         (record(5) + ORDINAL, 0, 1, (14, 5)),
+        (record(4) + MARK, 1, 2, (14, 4)),
+        (record(511) + MARK, 0, 1, (14, 511)),
         (entry(9) + COUNTER, 3, 4, (15, 9)),
         (entry(255) + COUNT, 0, 1, (15, 255)),
     ];

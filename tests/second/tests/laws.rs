@@ -5,12 +5,17 @@ use ledgers::*;
 use second::console;
 use second::laws::*;
 use second::layout::*;
+use second::setting::Setting;
 use second::words;
+
+fn setting(k: u16, a: u16, beta1: u16, beta2: u16) -> Setting {
+    Setting { k, a, beta1, beta2 }
+}
 
 /// Run as a history.
 fn run_history() -> History {
     let mut history = History::default();
-    history.opened(2);
+    history.opened(&setting(3, 2, 1, 2));
     history.booked(1, 7, &[0]);
     history.booked(2, 7, &[0]);
     history.booked(3, 9, &[1]);
@@ -48,7 +53,7 @@ fn a_list_shows_the_same_picture() {
 #[test]
 fn an_opening_starts_afresh() {
     let mut history = run_history();
-    history.opened(1);
+    history.opened(&setting(1, 1, 1, 2));
     let ws = opened(1, 1, 1, 2);
     assert_eq!(history.check(&picture(&ws)), Ok(()));
 }
@@ -70,6 +75,47 @@ fn each_law_can_be_broken() {
     assert_eq!(broken, Some(Law::AcceptedOnce));
     let broken = broken_law(|picture| picture.rows[1].is_preferred = true);
     assert_eq!(broken, Some(Law::Preferred));
+}
+
+/// β1 is 1, booking 2 has two chits built on it, 4 has one.
+#[test]
+fn nobody_is_accepted_without_chits() {
+    assert_eq!(
+        broken_law(|picture| picture.rows[2].is_accepted = true),
+        None
+    );
+    let broken = broken_law(|picture| picture.rows[4].is_accepted = true);
+    assert_eq!(broken, Some(Law::AcceptedByChits));
+}
+
+/// One picture after the other, of P10 and of a rival that comes after it.
+#[test]
+fn who_is_accepted_stays_so() {
+    let mut history = History::default();
+    history.opened(&setting(1, 1, 1, 2));
+    history.booked(1, 7, &[0]);
+    history.booked(2, 8, &[1]);
+    history.polled(1, &[1]);
+    history.polled(2, &[1]);
+    let mut ws = accepted_1();
+    assert_eq!(history.check(&picture(&ws)), Ok(()));
+    must_book(&mut ws, 3, 7, &[0]);
+    history.booked(3, 7, &[0]);
+    let kept = picture(&ws);
+    assert_eq!(history.check(&kept), Ok(()));
+    let mut lost = kept.clone();
+    lost.rows[1].is_accepted = false;
+    let breach = history.check(&lost).unwrap_err();
+    assert_eq!(breach.law, Law::AcceptedStays);
+    // After an opening, nobody has to be.
+    history.opened(&setting(1, 1, 1, 2));
+    history.booked(1, 7, &[0]);
+    history.booked(2, 8, &[1]);
+    history.booked(3, 7, &[0]);
+    history.polled(1, &[1]);
+    history.polled(2, &[1]);
+    assert_eq!(history.check(&lost), Ok(()));
+    assert_eq!(history.check(&kept), Ok(()));
 }
 
 /// The laws that a true confidence implies, each by itself.

@@ -67,6 +67,7 @@ fn taken(file: &[u8]) -> Vec<u16> {
     let mut history = History::default();
     history.handed_over(&parse(file).expect("it was taken"));
     let picture = Picture::of_words(&ws, |name| accepted(&ws, name) == (0, 1));
+    assert_eq!(picture, Picture::of_marks(&ws));
     assert_eq!(history.check(&picture), Ok(()));
     ws
 }
@@ -164,15 +165,70 @@ fn what_no_poll_led_to_is_not_kept() {
     for b in 0..5 {
         ws[record(b) + CONFIDENCE] = 0;
     }
+    ws[record(3) + MARK] = 1;
     ws[entry(7)..entry(8)].copy_from_slice(&[1, 2, 3, 2]);
     makes(&written(&ws), &run_polled(4));
+}
+
+/// Every word but the marks.
+fn without_marks(mut ws: Vec<u16>) -> Vec<u16> {
+    for b in 0..BOOKINGS {
+        ws[record(b) + MARK] = 0;
+    }
+    ws
+}
+
+/// A reading makes the marks that come of the bookings first and the polls
+/// after them. Here 1 was alone when its counter came to 2; in the file it
+/// has a rival from the start, and counter 2 is not above β2.
+#[test]
+fn a_reading_loses_the_mark_of_a_booking_with_a_late_rival() {
+    let mut ws = accepted_1();
+    must_book(&mut ws, 3, 7, &[0]);
+    assert_eq!(marked(&ws), [0, 1]);
+    let read = taken(&written(&ws));
+    assert_eq!(marked(&read), [0]);
+    assert_eq!(without_marks(read), without_marks(ws));
+}
+
+/// Where the rival overtakes, a reading hands the mark to it: 1 has no mark
+/// there that would stand in its way. 4, 5 and 6 have counters of 1.
+#[test]
+fn a_reading_hands_the_mark_to_a_late_rival() {
+    let ws = overtaken();
+    assert_eq!(marked(&ws), [0, 1]);
+    let file = written(&ws);
+    assert_eq!(file.len(), 14 + 6 * 14 + 6 * 4);
+    let mut read = taken(&file);
+    assert_eq!(marked(&read), [0, 3]);
+    assert_eq!(without_marks(read.clone()), without_marks(ws.clone()));
+    assert_eq!(read_first(&mut read, &written(&accepted_1())), (0, 0));
+    assert_eq!(read, accepted_1());
+    // Read into the very words it was written from, it does the same.
+    let mut own = ws;
+    assert_eq!(read_first(&mut own, &file), (0, 0));
+    assert_eq!(marked(&own), [0, 3]);
+}
+
+/// Without late rivals the marks are the same too.
+#[test]
+fn a_reading_gives_back_the_marks_of_a_day_without_late_rivals() {
+    makes(&written(&accepted_1()), &accepted_1());
+    let mut ws = chain(40);
+    for name in 1..40 {
+        must_poll(&mut ws, name, &[1]);
+    }
+    // The counters are 39, 38 and on to 1: all but the last are above β1.
+    assert_eq!(marked(&ws), (0..39).collect::<Vec<_>>());
+    makes(&written(&ws), &ws);
 }
 
 // ---- the length of the workspace comes first
 
 #[test]
 fn refusal_1_before_17() {
-    for length in [0, 1, HEADER_WORDS, WORDS - 1, WORDS + 1, 2 * WORDS] {
+    let lengths = [0, 1, HEADER_WORDS, WORDS - 1, WORDS + 1, 2 * WORDS];
+    for length in lengths.into_iter().chain([WORDS_WITHOUT_MARKS]) {
         let mut ws = run_polled(4);
         ws.resize(length, 0);
         let before = ws.clone();

@@ -35,9 +35,24 @@ fn polls(number: u32, name: u64, votes: &[u8]) {
     answers(&run_polled(2), number, |ws| poll(ws, name, votes));
 }
 
+/// 8 + 512 * 13 + 256 * 4, the entries from 8 + 512 * 13 on.
+#[test]
+fn the_workspace_has_7688_words() {
+    assert_eq!((ENTRIES_START, WORDS), (6_664, 7_688));
+    answers(&[7; 7_688], 0, |ws| open(ws, 1, 1, 1, 1));
+}
+
 #[test]
 fn refusal_1_any_other_length() {
-    for length in [0, 1, HEADER_WORDS, WORDS - 1, WORDS + 1, 2 * WORDS] {
+    for length in [
+        0,
+        1,
+        HEADER_WORDS,
+        WORDS_WITHOUT_MARKS,
+        WORDS - 1,
+        WORDS + 1,
+        2 * WORDS,
+    ] {
         let mut ws = run_booked();
         ws.resize(length, 0);
         // The length comes first, before a setting or a name is looked at.

@@ -8,12 +8,12 @@
 //! chits, and these rows:
 //!
 //! ```text
-//! record  slot  parents  state  confidence  ordinal
-//!      0     0               1           3        0
-//!      1     7  0            2           2        4
-//!      2     7  0            2           2        1
-//!      3     9  1            1           0        2
-//!      4    10  1 2          2           1        3
+//! record  slot  parents  state  confidence  ordinal  mark
+//!      0     0               1           3        0     1
+//!      1     7  0            2           2        4     0
+//!      2     7  0            2           2        1     0
+//!      3     9  1            1           0        2     0
+//!      4    10  1 2          2           1        3     0
 //!
 //! slot  preferred  last  counter  bookings
 //!    0          0     0        3         1
@@ -35,11 +35,11 @@ fn run_stands_as_described() {
     let ws = run_polled(4);
     assert_eq!(ws[..HEADER_WORDS], [5, 3, 2, 1, 2, 4, 0, 0]);
     let rows = [
-        [0, 0, UNUSED, UNUSED, 1, 3, 0],
-        [1, 7, 0, UNUSED, 2, 2, 4],
-        [2, 7, 0, UNUSED, 2, 2, 1],
-        [3, 9, 1, UNUSED, 1, 0, 2],
-        [4, 10, 1, 2, 2, 1, 3],
+        [0, 0, UNUSED, UNUSED, 1, 3, 0, 1],
+        [1, 7, 0, UNUSED, 2, 2, 4, 0],
+        [2, 7, 0, UNUSED, 2, 2, 1, 0],
+        [3, 9, 1, UNUSED, 1, 0, 2, 0],
+        [4, 10, 1, 2, 2, 1, 3, 0],
     ];
     for (b, row) in rows.into_iter().enumerate() {
         let fields = [
@@ -50,6 +50,7 @@ fn run_stands_as_described() {
             STATE,
             CONFIDENCE,
             ORDINAL,
+            MARK,
         ];
         assert_eq!(fields.map(|field| record_word(&ws, b, field)), row);
     }
@@ -280,6 +281,40 @@ fn states_and_ordinals() {
         ws[record(1) + ORDINAL] = 1;
     });
     keeps(|ws| ws[record(3) + STATE] = 2);
+}
+
+#[test]
+fn marks() {
+    for b in 1..5 {
+        keeps(|ws| ws[record(b) + MARK] = 1);
+        for mark in [2, 3, 256, 257, 65535] {
+            breaks(14, b as i64, Broken::MarkOutside, |ws| {
+                ws[record(b) + MARK] = mark
+            });
+        }
+    }
+    breaks(14, 0, Broken::GenesisUnmarked, |ws| {
+        ws[record(0) + MARK] = 0
+    });
+    // What is neither 0 nor 1 is not 1 either.
+    let neither = [
+        (Record(0), Broken::GenesisUnmarked),
+        (Record(0), Broken::MarkOutside),
+    ];
+    breaks_all(14, 0, &neither, |ws| ws[record(0) + MARK] = 2);
+    // Slot 7 has 1 and 2; 3 and 4 are in slots of their own.
+    for rivals in [[1, 0], [0, 1]] {
+        keeps(|ws| {
+            ws[record(1) + MARK] = rivals[0];
+            ws[record(2) + MARK] = rivals[1];
+            ws[record(3) + MARK] = 1;
+            ws[record(4) + MARK] = 1;
+        });
+    }
+    breaks(14, 2, Broken::MarkTwice, |ws| {
+        ws[record(1) + MARK] = 1;
+        ws[record(2) + MARK] = 1;
+    });
 }
 
 #[test]

@@ -48,38 +48,109 @@ fn a_counter_rises_and_falls_in_one_poll() {
     assert_eq!(entry_words(&ws, 7), [1, 2, 0, 2]);
 }
 
+/// Who of 1 to 4 is accepted after a poll that fails, of a booking that has
+/// nothing to do with them, on words changed before it. Until the poll the
+/// marks alone count, and the change made none.
+fn accepted_after(change: impl FnOnce(&mut [u16])) -> [i64; 4] {
+    let mut ws = run_polled(4);
+    must_book(&mut ws, 5, 11, &[0]);
+    change(&mut ws);
+    let before: [i64; 4] = readings(&ws, accepted);
+    assert_eq!(before.map(|value| value as usize), marks_of_1_to_4(&ws));
+    let mut expected = ws.clone();
+    must_poll(&mut ws, 5, &[1, 255, 0]);
+    // Beside marks only p, state and ordinal move.
+    expected[P] = 5;
+    expected[record(5) + STATE] = 1;
+    expected[record(5) + ORDINAL] = 5;
+    for b in 0..6 {
+        expected[record(b) + MARK] = ws[record(b) + MARK];
+    }
+    assert_eq!(ws, expected);
+    assert_eq!(accepted(&ws, 5), (0, 0));
+    readings(&ws, accepted)
+}
+
+fn marks_of_1_to_4(ws: &[u16]) -> [usize; 4] {
+    [1, 2, 3, 4].map(|b| record_word(ws, b, MARK).into())
+}
+
 /// β2 counts for the booking that is both preferred and last.
 #[test]
 fn the_second_arm_needs_both() {
     // β2 is 2, so a counter of 3 is above it.
-    let both = changed(|ws| ws[entry(7)..entry(8)].copy_from_slice(&[2, 2, 3, 2]));
-    assert_eq!(readings(&both, accepted), [0, 1, 0, 0]);
-    let apart = changed(|ws| ws[entry(7)..entry(8)].copy_from_slice(&[2, 1, 3, 2]));
-    assert_eq!(readings(&apart, accepted), [0, 0, 0, 0]);
-    let at = changed(|ws| ws[entry(7)..entry(8)].copy_from_slice(&[2, 2, 2, 2]));
-    assert_eq!(readings(&at, accepted), [0, 0, 0, 0]);
+    let both = accepted_after(|ws| ws[entry(7)..entry(8)].copy_from_slice(&[2, 2, 3, 2]));
+    assert_eq!(both, [0, 1, 0, 0]);
+    let apart = accepted_after(|ws| ws[entry(7)..entry(8)].copy_from_slice(&[2, 1, 3, 2]));
+    assert_eq!(apart, [0, 0, 0, 0]);
+    let at = accepted_after(|ws| ws[entry(7)..entry(8)].copy_from_slice(&[2, 2, 2, 2]));
+    assert_eq!(at, [0, 0, 0, 0]);
 }
 
 /// β1 counts for one alone in its slot, and only on accepted parents.
 #[test]
 fn the_first_arm_needs_accepted_parents() {
-    let alone = changed(|ws| ws[entry(9) + COUNTER] = 2);
-    assert_eq!(readings(&alone, accepted), [0, 0, 0, 0]);
+    let alone = accepted_after(|ws| ws[entry(9) + COUNTER] = 2);
+    assert_eq!(alone, [0, 0, 0, 0]);
     // Parent 1 is accepted by its own counter; then 3 is by β1.
-    let on_accepted = changed(|ws| {
+    let on_accepted = accepted_after(|ws| {
         ws[entry(9) + COUNTER] = 2;
         ws[entry(7)..entry(8)].copy_from_slice(&[1, 1, 3, 2]);
     });
-    assert_eq!(readings(&on_accepted, accepted), [1, 0, 1, 0]);
+    assert_eq!(on_accepted, [1, 0, 1, 0]);
     // Booking 4 also stands on 2, which is not accepted.
-    let one_parent_short = changed(|ws| {
+    let one_parent_short = accepted_after(|ws| {
         ws[entry(10) + COUNTER] = 2;
         ws[entry(7)..entry(8)].copy_from_slice(&[1, 1, 3, 2]);
     });
-    assert_eq!(readings(&one_parent_short, accepted), [1, 0, 0, 0]);
+    assert_eq!(one_parent_short, [1, 0, 0, 0]);
     // Above β2 it needs no parents.
-    let by_beta2 = changed(|ws| ws[entry(10) + COUNTER] = 3);
-    assert_eq!(readings(&by_beta2, accepted), [0, 0, 0, 1]);
+    let by_beta2 = accepted_after(|ws| ws[entry(10) + COUNTER] = 3);
+    assert_eq!(by_beta2, [0, 0, 0, 1]);
+}
+
+/// A parent's mark counts, not whether it would be accepted today: 1 is not
+/// even last in slot 7.
+#[test]
+fn the_first_arm_asks_for_marks_of_parents() {
+    let on_marked = accepted_after(|ws| {
+        ws[entry(9) + COUNTER] = 2;
+        ws[record(1) + MARK] = 1;
+    });
+    assert_eq!(on_marked, [1, 0, 1, 0]);
+    // At β1 it is not enough.
+    let at_beta1 = accepted_after(|ws| {
+        ws[entry(9) + COUNTER] = 1;
+        ws[record(1) + MARK] = 1;
+    });
+    assert_eq!(at_beta1, [1, 0, 0, 0]);
+}
+
+/// Nobody is marked beside a rival that is, whichever of them is lower; and
+/// what stands on who is passed over is not marked either.
+#[test]
+fn a_mark_stands_in_the_way_of_rivals() {
+    let beside_2 = accepted_after(|ws| {
+        ws[entry(7)..entry(8)].copy_from_slice(&[1, 1, 3, 2]);
+        ws[entry(9) + COUNTER] = 2;
+        ws[record(2) + MARK] = 1;
+    });
+    assert_eq!(beside_2, [0, 1, 0, 0]);
+    let beside_1 = accepted_after(|ws| {
+        ws[entry(7)..entry(8)].copy_from_slice(&[2, 2, 3, 2]);
+        ws[record(1) + MARK] = 1;
+    });
+    assert_eq!(beside_1, [1, 0, 0, 0]);
+}
+
+/// A mark that nothing earned stays, too.
+#[test]
+fn marks_that_no_poll_gave_stay() {
+    let kept = accepted_after(|ws| {
+        ws[record(2) + MARK] = 1;
+        ws[record(4) + MARK] = 1;
+    });
+    assert_eq!(kept, [0, 1, 0, 1]);
 }
 
 /// The genesis is accepted and preferred whatever its counter is.

@@ -6,6 +6,7 @@ use native.Mathlib.Omega.{arith}
 use lib.ListN.{drop}
 use lib.Dec.{eqb}
 use borrow.Author.Needs.{needs}
+use Rattle.rules.specs.Layout.{stateOf}
 use Rattle.day_file.specs.Day.{DayPoll}
 use Rattle.day_file.specs.Decode.{Read, readPoll}
 use Rattle.day_replay.specs.Rows.{repolledOnce}
@@ -47,7 +48,8 @@ write-outcome-requires : tie.Need-write-outcome-requires
 write-outcome-requires c κs =
     let O = c .before in
     let able = start O .pre .0 in
-    (able .ledger, omega (arith, able .booked, ap (λ (o : Read DayPoll). o .value .booking) (read O)))
+    let same = ap (λ (o : Read DayPoll). o .value .booking) (read O) in
+    (able .ledger, omega (arith, able .booked, same), ap (stateOf (start O .args .w .now)) (sym same) ∙ able .waiting)
 
 add-result : tie.Need-add-result
 add-result c = search needs

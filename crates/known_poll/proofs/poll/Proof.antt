@@ -7,6 +7,7 @@ use native.Mathlib.Omega.{arith}
 use lib.ListN.{length}
 use lib.Dec.{eqb}
 use borrow.Author.Needs.{needs}
+use borrow.Author.Tests.{eqb-true, not-false}
 use Rattle.terms.specs.declared.answer.Found.the-variants.{At}
 use Rattle.rules.specs.Layout.{bookings, settingIn, stateOf}
 use Rattle.rules.specs.Book.{lookUp}
@@ -104,7 +105,10 @@ bad-vote c =
     (sym (J .has-refused .ensures) ∙ c .if3 .taken)
 
 write-poll-requires : tie.Need-write-poll-requires
-write-poll-requires c κs = let I = at (c .before .before .before .before) in (start I .pre, below I)
+write-poll-requires c κs =
+    let G = c .before in
+    let J = G .before .before .before in
+    (start (at J) .pre, below (at J), eqb-true (stateOf (w (at J)) (i (at J))) 0 (not-false _ (sym (over J) ∙ G .before .before .if1 .left)))
 
 same-length-5 : tie.Need-same-length-5
 same-length-5 c = search needs

@@ -21,8 +21,8 @@ flag-requires c κs = search needs
 enum-told-2 : tie.Need-enum-told-2
 enum-told-2 c = search needs
 
-accepted-of-requires : tie.Need-accepted-of-requires
-accepted-of-requires c κs = search needs
+is-accepted-requires : tie.Need-is-accepted-requires
+is-accepted-requires c κs = search needs
 
 flag-requires-2 : tie.Need-flag-requires-2
 flag-requires-2 c κs = search needs
@@ -53,7 +53,7 @@ query c =
 accepted : tie.Need-returns-2
 accepted c =
     let S = c .before .before .before .before .before in
-    toZ-ofZ w64 _ (search needs) ∙ c .flag2 .ensures ∙ ap (λ b. pos (bit b)) (c .before .accepted-of .ensures) ∙ ap (λ r. readingOf r (S .args .w .now) (S .args .i)) (sym (c .before .before .enum-told2 .given .1))
+    toZ-ofZ w64 _ (search needs) ∙ c .flag2 .ensures ∙ ap (λ b. pos (bit b)) (c .before .is-accepted .ensures) ∙ ap (λ r. readingOf r (S .args .w .now) (S .args .i)) (sym (c .before .before .enum-told2 .given .1))
 
 lead : tie.Need-returns-3
 lead c =
@@ -78,7 +78,7 @@ value-of-spec =
     query-of-requires
     flag-requires
     enum-told-2
-    accepted-of-requires
+    is-accepted-requires
     flag-requires-2
     enum-told-3
     lead-of-requires

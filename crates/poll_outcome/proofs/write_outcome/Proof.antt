@@ -1,50 +1,26 @@
--- The outcome chooses between what a success leaves, with the members of the ancestry, and what a failure leaves.
+-- The outcome leaves a ledger, since the booking waited, and those who meet the rule are marked on it.
+use mathlib.Core.Path.{ap, sym, subst, _∙_}
 use borrow.Author.Needs.{needs}
+use Rattle.rules.specs.Sound.{Ledger}
+use Rattle.rules.specs.Marks.{marked}
+use Rattle.promises.proofs.Polled.{concluded-ledger}
 use Rattle.poll_outcome.proofs.write_outcome.Statement.{statement}
 use Rattle.poll_outcome.proofs.write_outcome.Tie as tie
 
-slice-aggregate-gather-ancestry : tie.Need-slice-aggregate-gather-ancestry
-slice-aggregate-gather-ancestry c = search needs
+conclude-requires : tie.Need-conclude-requires
+conclude-requires c κs = search needs
 
-gather-ancestry-requires : tie.Need-gather-ancestry-requires
-gather-ancestry-requires c κs = search needs
-
-slice-aggregate-write-success : tie.Need-slice-aggregate-write-success
-slice-aggregate-write-success c = search needs
-
-write-success-requires : tie.Need-write-success-requires
-write-success-requires c κs = search needs
-
-write-failure-requires : tie.Need-write-failure-requires
-write-failure-requires c κs = search needs
+mark-accepted-requires : tie.Need-mark-accepted-requires
+mark-accepted-requires c κs =
+    let S = c .before .before .before .before .before .before in
+    subst Ledger (sym (c .before .before .before .conclude .ensures))
+    (concluded-ledger (S .args .w .now) (S .args .i) (S .args .success) (S .pre .0) (record { below = S .pre .1; waiting = S .pre .2 }))
 
 same-length : tie.Need-same-length
 same-length c = search needs
 
-succeeds : tie.Need-returns
-succeeds c =
-    let M = c .before .before .before .before .before .before in
-    let I = M .before .before .before in
-    simp (I .if1 .taken, ← M .gather-ancestry .ensures) (c .before .before .write-success .ensures)
-
-same-length-2 : tie.Need-same-length-2
-same-length-2 c = search needs
-
-fails : tie.Need-returns-2
-fails c =
-    let I = c .before .before .before .before in
-    simp (I .if1 .left) (c .before .before .write-failure .ensures)
+returns : tie.Need-returns
+returns c = c .before .before .mark-accepted .ensures ∙ ap marked (c .before .before .before .before .before .before .conclude .ensures)
 
 pub write-outcome-spec : {M : Type 1} → statement M
-write-outcome-spec =
-    tie.close
-    (tie.spec
-    slice-aggregate-gather-ancestry
-    gather-ancestry-requires
-    slice-aggregate-write-success
-    write-success-requires
-    write-failure-requires
-    same-length
-    succeeds
-    same-length-2
-    fails)
+write-outcome-spec = tie.close (tie.spec conclude-requires mark-accepted-requires same-length returns)

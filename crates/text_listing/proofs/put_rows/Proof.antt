@@ -13,11 +13,11 @@ use Rattle.text_listing.proofs.put_rows.Statement.{statement}
 use Rattle.text_listing.proofs.put_rows.Tie as tie
 
 abbrev Inv-loop : tie.InvT-loop
-Inv-loop w accepted out₀ at n next₀ i₀ out next i =
+Inv-loop w out₀ at n next₀ i₀ out next i =
     (n ≡ bookings w) × (i ≤ bookings w) × (length out ≡ length out₀) × Put out₀ at (rowsPrint w i) next out
 
 abbrev μ-loop : tie.MeasureT-loop
-μ-loop w accepted out₀ at n next₀ i₀ out next i = n - i
+μ-loop w out₀ at n next₀ i₀ out next i = n - i
 
 how-many-requires : tie.Need-how-many-requires Inv-loop μ-loop
 how-many-requires c κs = search needs
@@ -28,9 +28,9 @@ loop-holds c = (c .how-many .ensures, search needs, refl, rows-none _ _ _)
 put-one-requires : tie.Need-put-one-requires Inv-loop μ-loop
 put-one-requires c κs =
     let L = c .before .before in
-    let S = L .before .before .before .before .before in
+    let S = L .before .before .before .before in
     let i = L .loop .i in
-    (S .pre .0, omega arith, S .pre .1, omega (arith, L .loop .inv .3 .next, rows-length (S .args .w .now) (S .pre .0) i (omega arith), S .pre .2))
+    (S .pre .0, omega arith, omega (arith, L .loop .inv .3 .next, rows-length (S .args .w .now) (S .pre .0) i (omega arith), S .pre .1))
 
 add-i : tie.Need-add-i Inv-loop μ-loop
 add-i c = search needs
@@ -50,7 +50,7 @@ same-length c = search needs
 returns : tie.Need-returns Inv-loop μ-loop
 returns c =
     let L = c .before in
-    let e : L .loop .i ≡ bookings (L .before .before .before .before .before .args .w .now) = omega arith in
+    let e : L .loop .i ≡ bookings (L .before .before .before .before .args .w .now) = omega arith in
     rw e at (L .loop .inv .3)
 
 pub put-rows-spec : {M : Type 1} → statement M

@@ -1,8 +1,5 @@
--- Each field is what its reader says; the mark of booking i among all accepted ones is its acceptance.
+-- Each field is what its reader says.
 use borrow.Author.Needs.{needs}
-use Rattle.rules.specs.Layout.{bookings}
-use Rattle.rule_laws.proofs.Accepted.{acceptedBelow-is}
-use Rattle.bits.proofs.Members.{member-bit}
 use Rattle.text_listing.specs.Listed.{listRow}
 use Rattle.text_listing.proofs.row_of.Statement.{statement}
 use Rattle.text_listing.proofs.row_of.Tie as tie
@@ -25,8 +22,8 @@ is-preferred-requires c κs = search needs
 flag-requires : tie.Need-flag-requires
 flag-requires c κs = search needs
 
-is-set-requires : tie.Need-is-set-requires
-is-set-requires c κs = search needs
+is-accepted-requires : tie.Need-is-accepted-requires
+is-accepted-requires c κs = search needs
 
 flag-requires-2 : tie.Need-flag-requires-2
 flag-requires-2 c κs = search needs
@@ -37,14 +34,9 @@ returns c =
     let P = c .before .before .before in
     let C = P .before .before in
     let G = C .before in
-    let S = G .before .before .before .before in
-    let w = S .args .w .now in
     rw (
       c .flag2 .ensures,
-      c .before .is-set .ensures,
-      ← member-bit (S .args .accepted .now) (S .args .i),
-      S .pre .2,
-      acceptedBelow-is w (bookings w) (S .args .i) (S .pre .1),
+      c .before .is-accepted .ensures,
       c .before .before .flag .ensures,
       P .is-preferred .ensures,
       P .before .wide .ensures .0,
@@ -63,6 +55,6 @@ row-of-spec =
     wide-requires
     is-preferred-requires
     flag-requires
-    is-set-requires
+    is-accepted-requires
     flag-requires-2
     returns)

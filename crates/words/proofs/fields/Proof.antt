@@ -5,6 +5,7 @@ use native.Mathlib.Omega.{arith}
 use lib.ListN.{take, drop}
 use borrow.Author.Needs.{needs}
 use Rattle.loops.proofs.Fill.{from-part}
+use Rattle.rules.specs.Layout.{headerWords, recordWords, recordAt}
 use Rattle.words.proofs.fields.Statement.{statement}
 use Rattle.words.proofs.fields.Tie as tie
 
@@ -35,8 +36,9 @@ part-result-end c = search needs
 returns : tie.Need-returns
 returns c =
     let A = c .before .args in
-    let n : 8 + 12 * A .i + A .f + A .count - (8 + 12 * A .i + A .f) ≡ A .count = omega arith in
-    ap (λ k. take k (drop (8 + 12 * A .i + A .f) (A .w .now))) n ∙ from-part (A .w .now) (8 + 12 * A .i) (A .f) (A .count) (omega (arith, c .before .pre))
+    let at = recordAt (A .i) (A .f) in
+    let n : at + A .count - at ≡ A .count = omega arith in
+    ap (λ k. take k (drop at (A .w .now))) n ∙ from-part (A .w .now) (headerWords + recordWords * A .i) (A .f) (A .count) (omega (arith, c .before .pre))
 
 pub fields-spec : {M : Type 1} → statement M
 fields-spec =

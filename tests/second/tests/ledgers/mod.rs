@@ -4,6 +4,9 @@
 use second::layout::*;
 use second::words;
 
+/// The length of a workspace before records had marks.
+pub const WORDS_WITHOUT_MARKS: usize = 7_176;
+
 /// The lines of Run before its polls, and its polls.
 pub const RUN_BOOKINGS: &str = "open 3 2 1 2\n\
     book 1 7 0\n\
@@ -57,6 +60,31 @@ pub fn run_polled(count: usize) -> Vec<u16> {
     ws
 }
 
+/// P10: 1 is accepted by its counter of 2, alone in slot 7; 2 has counter 1.
+pub fn accepted_1() -> Vec<u16> {
+    let mut ws = opened(1, 1, 1, 2);
+    must_book(&mut ws, 1, 7, &[0]);
+    must_book(&mut ws, 2, 8, &[1]);
+    must_poll(&mut ws, 1, &[1]);
+    must_poll(&mut ws, 2, &[1]);
+    ws
+}
+
+/// P10, then 3 comes to slot 7 and three bookings on it, all polled with
+/// success: 3 becomes last with counter 0, has as much confidence as 1 after
+/// two polls and more after three, and its counter is 3 after the fourth.
+pub fn overtaken() -> Vec<u16> {
+    let mut ws = accepted_1();
+    must_book(&mut ws, 3, 7, &[0]);
+    for name in 4..7 {
+        must_book(&mut ws, name, 7 + name as u16, &[3]);
+    }
+    for name in 3..7 {
+        must_poll(&mut ws, name, &[1]);
+    }
+    ws
+}
+
 /// A chain of `n` bookings, names and numbers alike, each in a slot of its
 /// own as long as there are slots.
 pub fn chain(n: u64) -> Vec<u16> {
@@ -69,6 +97,13 @@ pub fn chain(n: u64) -> Vec<u16> {
 
 pub fn record_word(ws: &[u16], b: usize, field: usize) -> u16 {
     ws[record(b) + field]
+}
+
+/// Who has a mark, in rising number.
+pub fn marked(ws: &[u16]) -> Vec<usize> {
+    (0..BOOKINGS)
+        .filter(|&b| record_word(ws, b, MARK) == 1)
+        .collect()
 }
 
 pub fn entry_words(ws: &[u16], s: usize) -> &[u16] {

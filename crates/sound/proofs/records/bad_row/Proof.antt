@@ -1,5 +1,5 @@
 -- A record below n that is bad is the lowest row. Where none is, the bits are all the ordinals held, and tell whether row n is, before the rest.
-use mathlib.Core.Path.{_≡_, sym, ap, _∙_}
+use mathlib.Core.Path.{_≡_, refl, sym, ap, _∙_}
 use mathlib.Core.Bool.{not}
 use mathlib.Core.List.{List}
 use Prim.Native.Nat.{ℕ, _≤_, _<_}
@@ -27,11 +27,14 @@ slice-aggregate-seen c = search needs
 slice-aggregate-filter : tie.Need-slice-aggregate-bad-record-2
 slice-aggregate-filter c = search needs
 
+slice-aggregate-marked : tie.Need-slice-aggregate-bad-record-3
+slice-aggregate-marked c = search needs
+
 bad-record-requires : tie.Need-bad-record-requires
 bad-record-requires c κs =
-    let S = c .before .before .before .before .before in
+    let S = c .before .before .before .before .before .before in
     let w = S .args .w .now in
-    (S .pre .0, record { whole = S .pre .0 .whole; within = omega arith; polled = omega arith; lower = sym (setBelow-zero (ordinalOf w)) }, S .pre .2, sym (namesNoted-zero (nameOf w)))
+    ((S .pre .0, record { whole = S .pre .0 .whole; within = omega arith; polled = omega arith; lower = sym (setBelow-zero (ordinalOf w)) }, S .pre .2), (sym (namesNoted-zero (nameOf w)), refl))
 
 slice-aggregate-all-seen : tie.Need-slice-aggregate-all-seen
 slice-aggregate-all-seen c = search needs
@@ -39,7 +42,7 @@ slice-aggregate-all-seen c = search needs
 -- what the first pass found, and what it left seen
 module _ (B : tie.After-bad-record) where
   abbrev S : tie.Start
-  S = B .before .before .before .before .before .before
+  S = B .before .before .before .before .before .before .before
 
   abbrev w : List ℕ
   w = S .args .w .now
@@ -52,13 +55,13 @@ module _ (B : tie.After-bad-record) where
 
 some-bad : tie.Need-returns
 some-bad c =
-    let B = c .before .before .before in
+    let B = c .before .before .before .before in
     found B ∙ sym (damaged-below (w B) (fits B) (λ q. c .if1 .taken (found B ∙ q ∙ sym (S B .pre .0 .counts))))
 
 -- where none below n is bad
 module _ (m : tie.After-seen3) where
   abbrev B : tie.After-bad-record
-  B = m .before .before .before .before
+  B = m .before .before .before .before .before
 
   reached : B .bad-record .result ≡ bookings (w B)
   reached = m .before .if1 .left ∙ S B .pre .0 .counts
@@ -66,8 +69,8 @@ module _ (m : tie.After-seen3) where
   none-below : lowestBelow (w B) ≡ bookings (w B)
   none-below = sym (found B) ∙ reached
 
-  polled : B .before .before .before .wide .result ≡ polls (w B)
-  polled = let A = B .before .before .before in A .wide .ensures .0 ∙ A .before .header .ensures
+  polled : B .before .before .before .before .wide .result ≡ polls (w B)
+  polled = let A = B .before .before .before .before in A .wide .ensures .0 ∙ A .before .header .ensures
 
   polls-lt : polls (w B) < bookings (w B)
   polls-lt = omega (arith, S B .pre .0 .counts, S B .pre .1)
@@ -106,6 +109,7 @@ bad-row-spec =
     wide-requires
     slice-aggregate-seen
     slice-aggregate-filter
+    slice-aggregate-marked
     bad-record-requires
     some-bad
     slice-aggregate-all-seen

@@ -1,4 +1,4 @@
--- The code has the rule's tests in the rule's order, with what it was told in place of a look back at the lower names and the bits of the lower ordinals.
+-- The code has the rule's tests in the rule's order, with what it was told in place of a look back at the lower names and marks, and the bits of the lower ordinals.
 use Rattle.sound.proofs.Seen.{bookingGood-seen}
 use borrow.Author.Needs.{needs}
 use Rattle.sound.proofs.records.booking_good.Statement.{statement}
@@ -23,7 +23,7 @@ returns : tie.Need-returns
 returns c =
     let W = c .before .before .before in
     let S = W .before .before .before .before in
-    rw (S .pre .1, W .before .wide-field .ensures, c .before .before .parents-good .ensures, c .before .state-good .ensures, c .is-set .ensures, W .wide-field2 .ensures, S .pre .0 .lower) (bookingGood-seen (S .args .w .now) (S .args .i) (S .pre .0 .polled))
+    rw (S .pre .1, W .before .wide-field .ensures, c .before .before .parents-good .ensures, c .before .state-good .ensures, c .is-set .ensures, W .wide-field2 .ensures, S .pre .0 .lower, S .pre .2) (bookingGood-seen (S .args .w .now) (S .args .i) (S .pre .0 .polled))
 
 pub booking-good-spec : {M : Type 1} → statement M
 booking-good-spec =

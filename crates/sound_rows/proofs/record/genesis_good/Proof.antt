@@ -28,12 +28,15 @@ field-requires-2 c κs = search needs
 field-requires-3 : tie.Need-field-requires-3
 field-requires-3 c κs = search needs
 
+field-requires-4 : tie.Need-field-requires-4
+field-requires-4 c κs = search needs
+
 returns : tie.Need-returns
 unfolding genesisGood
 returns c =
-    let P = c .before .before in
+    let P = c .before .before .before in
     let N = P .before .before .before .before .before in
-    simp (N .name .ensures, P .before .before .before .before .field .ensures, P .before .before .before .parent .ensures, P .before .before .parent2 .ensures, P .before .parent3 .ensures, P .parent4 .ensures, c .before .field2 .ensures, c .field3 .ensures)
+    simp (N .name .ensures, P .before .before .before .before .field .ensures, P .before .before .before .parent .ensures, P .before .before .parent2 .ensures, P .before .parent3 .ensures, P .parent4 .ensures, c .before .before .field2 .ensures, c .before .field3 .ensures, c .field4 .ensures)
 
 pub genesis-good-spec : {M : Type 1} → statement M
 genesis-good-spec =
@@ -47,4 +50,5 @@ genesis-good-spec =
     parent-requires-4
     field-requires-2
     field-requires-3
+    field-requires-4
     returns)

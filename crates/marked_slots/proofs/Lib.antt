@@ -1,0 +1,2 @@
+-- Laws of the slots that have a mark. They assume nothing.
+pub mod MarkedSlots

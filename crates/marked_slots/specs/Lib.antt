@@ -1,0 +1,2 @@
+-- The slots that have a mark, a bit for each.
+pub mod MarkedSlots

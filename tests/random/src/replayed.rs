@@ -1,0 +1,146 @@
+//! The marks that a reading has to make, told by the words that it left. They
+//! say who was booked where and on whom, and which polls came in which order;
+//! here all bookings come before all polls. Nothing is asked of either
+//! program, so that it is a third opinion beside theirs.
+
+use second::layout::*;
+
+/// Who is marked, in rising number. The words are sound.
+pub fn marks(ws: &[u16]) -> Vec<bool> {
+    let bookings: Vec<Booking> = (0..usize::from(ws[N])).map(|b| booking(ws, b)).collect();
+    let mut slots = [Slot::default(); SLOTS];
+    for (b, booking) in bookings.iter().enumerate() {
+        let slot = &mut slots[booking.slot];
+        if slot.count == 0 {
+            (slot.preferred, slot.last) = (b, b);
+        }
+        slot.count += 1;
+    }
+    let ancestries = ancestries(&bookings);
+    let mut confidences = vec![0; bookings.len()];
+    let mut marks = vec![false; bookings.len()];
+    marks[0] = true;
+    slots[0].is_marked = true;
+    for (b, is_success) in polls(ws) {
+        if is_success {
+            let members = (0..=b).filter(|&m| ancestries[b][m / 64] >> (m % 64) & 1 == 1);
+            let members: Vec<usize> = members.collect();
+            members.iter().for_each(|&m| confidences[m] += 1);
+            for m in members {
+                slots[bookings[m].slot].follow(m, &confidences);
+            }
+        }
+        for b in 1..bookings.len() {
+            let slot = &mut slots[bookings[b].slot];
+            let is_own = (slot.preferred, slot.last) == (b, b);
+            let is_earned = is_own && slot.counter > ws[BETA2]
+                || slot.count == 1
+                    && slot.counter > ws[BETA1]
+                    && bookings[b].parents.iter().all(|&parent| marks[parent]);
+            if is_earned && !slot.is_marked {
+                slot.is_marked = true;
+                marks[b] = true;
+            }
+        }
+    }
+    marks
+}
+
+struct Booking {
+    slot: usize,
+    parents: Vec<usize>,
+}
+
+#[derive(Clone, Copy, Default)]
+struct Slot {
+    preferred: usize,
+    last: usize,
+    counter: u16,
+    count: usize,
+    is_marked: bool,
+}
+
+impl Slot {
+    /// A member of a successful poll's ancestry has had its confidence raised.
+    fn follow(&mut self, m: usize, confidences: &[u16]) {
+        if confidences[m] > confidences[self.preferred] {
+            self.preferred = m;
+        }
+        self.counter = if self.last == m { self.counter + 1 } else { 0 };
+        self.last = m;
+    }
+}
+
+fn booking(ws: &[u16], b: usize) -> Booking {
+    let words = &ws[record(b)..record(b + 1)];
+    let places = words[PARENT..STATE].iter().filter(|&&p| p != UNUSED);
+    Booking {
+        slot: words[SLOT].into(),
+        parents: places.map(|&parent| parent.into()).collect(),
+    }
+}
+
+/// A bit for each member. A parent's ancestry is known before it is asked for.
+fn ancestries(bookings: &[Booking]) -> Vec<[u64; BOOKINGS / 64]> {
+    let mut all: Vec<[u64; BOOKINGS / 64]> = Vec::with_capacity(bookings.len());
+    for (b, booking) in bookings.iter().enumerate() {
+        let mut own = [0; BOOKINGS / 64];
+        own[b / 64] |= 1 << (b % 64);
+        for &parent in &booking.parents {
+            for (word, more) in own.iter_mut().zip(all[parent]) {
+                *word |= more;
+            }
+        }
+        all.push(own);
+    }
+    all
+}
+
+/// Who was polled in which order, and with success or without.
+fn polls(ws: &[u16]) -> Vec<(usize, bool)> {
+    let mut polls = vec![(0, false); ws[P].into()];
+    for b in 1..usize::from(ws[N]) {
+        let words = &ws[record(b)..record(b + 1)];
+        if words[ORDINAL] > 0 {
+            polls[usize::from(words[ORDINAL]) - 1] = (b, words[STATE] == 2);
+        }
+    }
+    polls
+}
+
+#[cfg(test)]
+mod tests {
+    use super::*;
+    use crate::grow::{any_size, grow, Style};
+    use crate::prng::Prng;
+    use second::day::Day;
+    use second::ledger::Ledger;
+    use second::words::read_first;
+
+    fn marked(ledger: &Ledger) -> Vec<bool> {
+        ledger.bookings.iter().map(|b| b.is_marked).collect()
+    }
+
+    /// The second program makes the same marks, often other ones than the
+    /// history did, and at times a slot's goes to another booking.
+    #[test]
+    fn a_reading_makes_these_marks() {
+        let mut prng = Prng::new(1);
+        let (mut others, mut handed) = (0, 0);
+        for run in 0..200 {
+            let style = Style::any(&mut prng);
+            let n = any_size(&mut prng, run);
+            let ledger = grow(&mut prng, style, n).ledger;
+            let mut ws = vec![0; WORDS];
+            assert_eq!(read_first(&mut ws, &Day::of(&ledger).file()), (0, 0));
+            let made = marks(&ws);
+            for (b, &is_marked) in made.iter().enumerate() {
+                assert_eq!(ws[record(b) + MARK], u16::from(is_marked), "run {run}");
+            }
+            others += usize::from(made != marked(&ledger));
+            let is_new = |b: usize| made[b] && ledger.has_marked_rival(b);
+            handed += usize::from((0..made.len()).any(is_new));
+        }
+        assert!(others > 20 && handed > 5, "{others} and {handed} of 200");
+    }
+}
