@@ -1,3 +1,2 @@
--- Laws of the rule's short ways and of the slots that have a mark. They assume nothing.
-pub mod Rule
+-- Laws of the slots that have a mark. They assume nothing.
 pub mod SlotsNoted

@@ -264,9 +264,19 @@ passingSays =
     ∷ (is 3 ∷ is 2 ∷ is 1 ∷ is 1 ∷ is 0 ∷ is 0 ∷ is 0 ∷ [])
     ∷ []
 
--- ---- CR 1: one ledger, damaged in one word or in several. Bookings 1, 2 and 3 are a chain in slots 7, 8 and 9; 1 and 2 have chits, and 3 waits.
+-- ---- CR 1 and CR 5: ledgers that are damaged in one word or in several
+
+-- Bookings 1, 2 and 3 are a chain in slots 7, 8 and 9; 1 and 2 have chits, and 3 waits.
 -- So n is 4 and p is 2, two records are in state 2, and 2 is the confidence of the genesis and of 1, the counter of slots 0 and 7, and the bound of both.
 -- The genesis and 1 are marked.
+abbrev chained : CallsMade → List ℕ
+chained c =
+    let booked = c .book (c .book (openCall unopened (settingOf 1 1 1 2) .words) 1 7 (0 ∷ []) .words) 2 8 (1 ∷ []) .words in
+    c .poll (c .poll (c .book booked 3 9 (2 ∷ []) .words) 1 (1 ∷ []) .words) 2 (1 ∷ []) .words
+
+-- what a reading tells of the words
+abbrev told : CallsMade → List ℕ → Got
+told c w = got (c .ask Size w 0)
 
 -- record i has the name: a name below 65536 stands in the last of its four words
 abbrev named : List ℕ → (i name : ℕ) → List ℕ
@@ -274,38 +284,27 @@ named w i name = withField w i 3 name
 
 unfoldable pub damaged : CallsMade → List (List Got)
 damaged c =
-    let booked = c .book (c .book (openCall unopened (settingOf 1 1 1 2) .words) 1 7 (0 ∷ []) .words) 2 8 (1 ∷ []) .words in
-    let sound = c .poll (c .poll (c .book booked 3 9 (2 ∷ []) .words) 1 (1 ∷ []) .words) 2 (1 ∷ []) .words in
+    let sound = chained c in
     let counter = withEntry sound 7 counterField 3 in
     let confidence = withField counter 1 confidenceField 3 in
     let missing = withHeader sound pollsField 3 in
     let refused = c .book missing 4 10 (0 ∷ []) in
-    let both = withField (withField sound 3 slotField 7) 3 markField 1 in
-    let three = withField (withField both 2 slotField 7) 2 markField 1 in
-    let told : List ℕ → Got = λ w. got (c .ask Size w 0) in
     -- nothing is damaged
-    (told sound ∷ [])
+    (told c sound ∷ [])
     -- a name twice is charged to the higher record; of three holders the second is the lowest that breaks the rule
-    ∷ (told (named sound 3 2) ∷ told (named (named sound 3 1) 2 1) ∷ told (named sound 1 0) ∷ [])
+    ∷ (told c (named sound 3 2) ∷ told c (named (named sound 3 1) 2 1) ∷ told c (named sound 1 0) ∷ [])
     -- so is an ordinal above 0; one above p breaks the rule at every holder, the lowest too
-    ∷ (told (withField sound 2 ordinalField 1) ∷ told (withField (withField sound 1 ordinalField 3) 2 ordinalField 3) ∷ [])
+    ∷ (told c (withField sound 2 ordinalField 1) ∷ told c (withField (withField sound 1 ordinalField 3) 2 ordinalField 3) ∷ [])
     -- ordinal 3 is missing, and that is charged to n; so is a word there that is not 0; the last record has number 511
-    ∷ (told missing ∷ told (withField sound 4 slotField 1) ∷ told (withField sound 511 ordinalField 1) ∷ [])
+    ∷ (told c missing ∷ told c (withField sound 4 slotField 1) ∷ told c (withField sound 511 ordinalField 1) ∷ [])
     -- a confidence above the bound is charged to its record, a counter to its slot; of two slots the lower; records come before slots
-    ∷ (told (withField sound 1 confidenceField 3) ∷ told counter ∷ told (withEntry counter 255 heldField 1) ∷ told (withEntry counter 0 lastField 1) ∷ told confidence ∷ [])
+    ∷ (told c (withField sound 1 confidenceField 3) ∷ told c counter ∷ told c (withEntry counter 255 heldField 1) ∷ told c (withEntry counter 0 lastField 1) ∷ told c confidence ∷ [])
     -- the genesis is a record, and a slot without bookings has an entry; the last slot has number 255
-    ∷ (told (withField sound 0 stateField 2) ∷ told (withEntry sound 255 heldField 1) ∷ [])
+    ∷ (told c (withField sound 0 stateField 2) ∷ told c (withEntry sound 255 heldField 1) ∷ [])
     -- record 2 loses its chit: one record is left in state 2, and the genesis has a confidence of 2
-    ∷ (told (withField sound 2 stateField 1) ∷ [])
-    -- CR 5: the genesis has a mark, and a mark is 0 or 1; one that no poll gave is sound, and is reported
-    ∷ (told (withField sound 0 markField 0) ∷ told (withField sound 0 markField 2) ∷ told (withField sound 2 markField 2) ∷ told (withField sound 3 markField 65535) ∷ told (withField sound 4 markField 1)
-    ∷ got (c .ask Accepted (withField sound 3 markField 1) 3) ∷ [])
-    -- of two marked in a slot the higher breaks the rule, of three the second is the lowest that does; without the lowest mark the others stay
-    ∷ (told both ∷ told three ∷ told (withField three 1 markField 0) ∷ [])
+    ∷ (told c (withField sound 2 stateField 1) ∷ [])
     -- p = n breaks a header rule and hides the damage of record and slot; the wrong length hides that too; so is what was never opened told
-    ∷ (told (withHeader confidence pollsField 4) ∷ told (0 ∷ withHeader confidence pollsField 4) ∷ told unopened ∷ [])
-    -- n, the setting and the spare words are the header's
-    ∷ (told (withHeader sound bookingsField 513) ∷ told (withHeader sound kField 0) ∷ told (withHeader sound spareField 1) ∷ told (withHeader sound 7 1) ∷ [])
+    ∷ (told c (withHeader confidence pollsField 4) ∷ told c (0 ∷ withHeader confidence pollsField 4) ∷ told c unopened ∷ [])
     -- damage comes before an unknown name and a name that is taken, and open does not look
     ∷ (got (c .ask Size missing 9) ∷ got (c .ask Size counter 9) ∷ got (c .book counter 0 0 [] .answer) ∷ got (openCall confidence (settingOf 1 1 1 2) .answer) ∷ [])
     -- a booking and a poll are refused alike, and no word moves
@@ -321,23 +320,55 @@ damagedSays =
     ∷ ((14, pos 1) ∷ (15, pos 7) ∷ (15, pos 7) ∷ (15, pos 0) ∷ (14, pos 1) ∷ [])
     ∷ ((14, pos 0) ∷ (15, pos 255) ∷ [])
     ∷ ((14, pos 0) ∷ [])
-    ∷ ((14, pos 0) ∷ (14, pos 0) ∷ (14, pos 2) ∷ (14, pos 3) ∷ (14, pos 4) ∷ is 1 ∷ [])
-    ∷ ((14, pos 3) ∷ (14, pos 2) ∷ (14, pos 3) ∷ [])
     ∷ ((2, pos 0) ∷ (1, pos 0) ∷ (2, pos 0) ∷ [])
-    ∷ ((2, pos 0) ∷ (2, pos 0) ∷ (2, pos 0) ∷ (2, pos 0) ∷ [])
     ∷ ((14, pos 4) ∷ (15, pos 7) ∷ (15, pos 7) ∷ is 0 ∷ [])
     ∷ ((14, pos 4) ∷ is 1 ∷ (15, pos 7) ∷ [])
+    ∷ []
+
+-- the same ledger, damaged in its marks
+unfoldable pub marks : CallsMade → List (List Got)
+marks c =
+    let sound = chained c in
+    let both = withField (withField sound 3 slotField 7) 3 markField 1 in
+    let three = withField (withField both 2 slotField 7) 2 markField 1 in
+    -- the genesis has a mark, and a mark is 0 or 1; one that no poll gave is sound, and is reported
+    (told c (withField sound 0 markField 0) ∷ told c (withField sound 0 markField 2) ∷ told c (withField sound 2 markField 2) ∷ told c (withField sound 3 markField 65535) ∷ told c (withField sound 4 markField 1)
+    ∷ got (c .ask Accepted (withField sound 3 markField 1) 3) ∷ [])
+    -- of two marked in a slot the higher breaks the rule, of three the second is the lowest that does; without the lowest mark the others stay
+    ∷ (told c both ∷ told c three ∷ told c (withField three 1 markField 0) ∷ [])
+    ∷ []
+
+unfoldable pub marksSay : List (List Got)
+marksSay =
+    ((14, pos 0) ∷ (14, pos 0) ∷ (14, pos 2) ∷ (14, pos 3) ∷ (14, pos 4) ∷ is 1 ∷ [])
+    ∷ ((14, pos 3) ∷ (14, pos 2) ∷ (14, pos 3) ∷ [])
+    ∷ []
+
+-- the genesis alone, damaged in the header
+unfoldable pub headers : CallsMade → List (List Got)
+headers c =
+    let empty = openCall unopened (settingOf 1 1 1 2) .words in
+    -- nothing is damaged
+    (told c empty ∷ [])
+    -- n, the setting and the spare words are the header's
+    ∷ (told c (withHeader empty bookingsField 513) ∷ told c (withHeader empty kField 0) ∷ told c (withHeader empty spareField 1) ∷ told c (withHeader empty 7 1) ∷ [])
+    ∷ []
+
+unfoldable pub headersSay : List (List Got)
+headersSay =
+    (is 1 ∷ [])
+    ∷ ((2, pos 0) ∷ (2, pos 0) ∷ (2, pos 0) ∷ (2, pos 0) ∷ [])
     ∷ []
 
 -- ---- the whole table, by the ledgers that the cases are made on
 
 -- what the cases give
 abbrev pub table : CallsMade → List (List Got)
-table c = diamond c ++ alone c ++ rivals c ++ resting c ++ late c ++ passing c ++ damaged c
+table c = diamond c ++ alone c ++ rivals c ++ resting c ++ late c ++ passing c ++ damaged c ++ marks c ++ headers c
 
 -- what document 01, CR 1 and CR 5 say
 abbrev pub says : List (List Got)
-says = diamondSays ++ aloneSays ++ rivalsSay ++ restingSays ++ lateSays ++ passingSays ++ damagedSays
+says = diamondSays ++ aloneSays ++ rivalsSay ++ restingSays ++ lateSays ++ passingSays ++ damagedSays ++ marksSay ++ headersSay
 
 -- ---- computed with the test that walks
 
@@ -372,6 +403,14 @@ damaged-walked : Passes (sameTable (damaged (made testWalked)) damagedSays)
 unfolding damaged damagedSays sameNumbers testWalked badRecordWalked badSlotWalked headerGood genesisGood bookingGood parentsGood stateGood markGood chits bookingsOf opened openWord lookUp hasUnknown hasTwice entered booked polled raiseOne prefer follow settleOne queryOf anotherMarked markOne rivalsMost leadOf sizeOf ancestry sweep spread voteOf openCall upTo firstFrom total greatest from walkFrom
 damaged-walked = tt
 
+marks-walked : Passes (sameTable (marks (made testWalked)) marksSay)
+unfolding marks marksSay testWalked badRecordWalked badSlotWalked headerGood genesisGood bookingGood parentsGood stateGood markGood chits bookingsOf opened openWord lookUp hasUnknown hasTwice entered booked polled raiseOne prefer follow settleOne queryOf anotherMarked markOne rivalsMost leadOf sizeOf ancestry sweep spread voteOf openCall upTo firstFrom total greatest from walkFrom
+marks-walked = tt
+
+headers-walked : Passes (sameTable (headers (made testWalked)) headersSay)
+unfolding headers headersSay testWalked badRecordWalked badSlotWalked headerGood genesisGood bookingGood parentsGood stateGood markGood chits bookingsOf opened openWord lookUp hasUnknown hasTwice entered booked polled raiseOne prefer follow settleOne queryOf anotherMarked markOne rivalsMost leadOf sizeOf ancestry sweep spread voteOf openCall upTo firstFrom total greatest from walkFrom
+headers-walked = tt
+
 -- one ledger's rows, by the calls of the law
 rows-by : (rows : CallsMade → List (List Got)) (said : List (List Got)) → Passes (sameTable (rows (made testWalked)) said) → rows theCalls ≡ said
 unfolding theCalls bookCall pollCall
@@ -384,8 +423,12 @@ cases =
     (ap₂ _++_
     (ap₂ _++_
     (ap₂ _++_
+    (ap₂ _++_
+    (ap₂ _++_
     (ap₂ _++_ (ap₂ _++_ (rows-by diamond diamondSays diamond-walked) (rows-by alone aloneSays alone-walked)) (rows-by rivals rivalsSay rivals-walked))
     (rows-by resting restingSays resting-walked))
     (rows-by late lateSays late-walked))
     (rows-by passing passingSays passing-walked))
-    (rows-by damaged damagedSays damaged-walked)
+    (rows-by damaged damagedSays damaged-walked))
+    (rows-by marks marksSay marks-walked))
+    (rows-by headers headersSay headers-walked)

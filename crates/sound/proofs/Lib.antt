@@ -1,5 +1,2 @@
--- Laws of searches that stop early, and of the tables that the passes keep. They assume nothing.
-pub mod Searches
-pub mod Seen
+-- Laws of the table of how many bookings each slot has. They assume nothing.
 pub mod Counts
-pub mod RecordRows

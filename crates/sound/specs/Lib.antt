@@ -1,4 +1,2 @@
--- The tables that the passes over the records keep, so that no pass looks back, and what the last of them asks.
-pub mod Ordinals
+-- The table that the pass over the slot entries goes by.
 pub mod Held
-pub mod Rest

@@ -1,9 +1,6 @@
-// Is a workspace sound, and if not, where: the passes over its rows. Each looks at a row once; a name is compared with lower ones only where the
-// filter of names can't tell.
+// Is a workspace sound, and if not, where: its header, its records, and then a pass over its slot entries.
 mod entries;
 mod held;
-mod ordinals;
-mod records;
 
 use rules::layout;
 use terms::answer::Refusal;
@@ -22,9 +19,9 @@ pub fn damage(w: &[u16]) -> Tested
         return Tested::Stop(Refusal::DamagedHeader);
     }
     let n = words::wide(words::header(w, layout::BOOKINGS));
-    let limit = records::chits(w, n);
-    let row = records::bad_row(w, n, limit);
-    if row != records::ROWS {
+    let limit = sound_records::chits(w, n);
+    let row = sound_records::bad_row(w, n, limit);
+    if row != sound_records::ROWS {
         return Tested::Stop(Refusal::DamagedRecord(row as u16));
     }
     let slot = entries::bad_slot(w, n, limit);
