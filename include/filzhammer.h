@@ -2,22 +2,24 @@
  * Filzhammer: a ledger of bookings that compete for slots by vote.
  *
  * A caller lends the words; the library keeps nothing of its own, allocates nothing and reads no clock, so any number of
- * ledgers may live side by side. Every call takes any contents and any numbers: it answers, or refuses and changes no word
- * and no byte that it was lent.
+ * ledgers may live side by side. Every call takes any contents and any numbers: it answers, or refuses and changes no word,
+ * no byte and no cell that it was lent.
  *
  * Each call returns 0 when it is taken and writes its value through the last pointer: the five readings have what they tell,
- * and writing a day file has the file's length. Open, book, poll and reading a day file, which alone change the workspace,
- * have value 0. A refused call returns the number of its refusal and leaves every word of the
- * workspace, and every byte of the buffer for a file, as it was. It writes value 0, or, with FILZ_DAMAGED_RECORD and
- * FILZ_DAMAGED_SLOT, the lowest row that breaks a rule.
+ * writing a day file has the file's length, and a lookup by an index has the booking's number. Open, book, poll and reading a
+ * day file, which alone change the workspace, have value 0, and so have building an index and entering a number in it. A refused
+ * call returns the number of its refusal and leaves every word of the workspace, every byte of the buffer for a file and every
+ * cell of the index as it was. It writes value 0, or, with FILZ_DAMAGED_RECORD and FILZ_DAMAGED_SLOT, the lowest row that
+ * breaks a rule.
  *
  * What the caller owes, since no C function can test it:
- *  - every pointer to words, parents, votes or bytes leads to as many elements as the count beside it says, and is aligned as
- *    its type asks. Where the count is 0 nothing is read or written through it, and it may be NULL;
- *  - `value` leads to one int64_t and is not NULL, and what it leads to does not overlap the workspace, the parents, the
- *    votes, the buffer for a file or the file; neither do the parents, the votes, that buffer or the file overlap the workspace;
+ *  - every pointer to words, parents, votes, bytes or cells leads to as many elements as the count beside it says, and is aligned
+ *    as its type asks. Where the count is 0 nothing is read or written through it, and it may be NULL;
+ *  - `value` leads to one int64_t and is not NULL, and what it leads to does not overlap the workspace, the parents, the votes,
+ *    the buffer for a file, the file or the index; nor does any of the others overlap the workspace;
  *  - while open, book or poll runs, or a day file is read, no other thread uses the same workspace. The five readings may run at
- *    the same time as one another and as the writing of day files, each into a buffer that no other thread uses.
+ *    the same time as one another, as the writing of day files, each into a buffer that no other thread uses, and as the calls
+ *    with an index. While one is built, or a number is entered in it, no other thread uses that index; lookups may share it.
  */
 #ifndef FILZHAMMER_H
 #define FILZHAMMER_H
@@ -52,7 +54,7 @@ extern "C" {
 #define FILZ_RECORDS_START 8
 #define FILZ_SLOTS_START 6664
 
-/* Instead of a number: an unused place for a parent; preferred and last of a slot that has no booking. */
+/* Instead of a number: an unused place for a parent; preferred and last of a slot that has no booking; an empty cell. */
 #define FILZ_NONE 65535
 
 /* Words of the header. */
@@ -105,6 +107,20 @@ extern "C" {
 #define FILZ_FILE_MOST 12266 /* of 512 bookings with as many parents as they can have, all polled: room for every file */
 
 /*
+ * The index: FILZ_CELLS lent words of 16 bits beside a ledger, its cells, by which a booking is found by its name. A cell holds
+ * the number of a booking, or FILZ_NONE if it is empty.
+ *
+ * A name's home is the 32-bit FNV-1a hash of its eight bytes, the highest first, modulo FILZ_CELLS. The hash starts from
+ * 2166136261; each byte goes in by exclusive or, and then the hash is multiplied by 16777619 modulo 2^32. Probing starts in the
+ * home and goes up by one, from the last cell round to cell 0, until it ends or every cell was tried.
+ *
+ * No other call reads or changes an index, and nothing says to which ledger one belongs. Polls, readings, writing a day file and
+ * refused calls leave the built index right. After a taken booking enter it; after a taken opening, and after a day file was
+ * read, build the index anew. docs/INDEX.md shows the cells of an example.
+ */
+#define FILZ_CELLS 1024
+
+/*
  * What a call returns. Where several refusals apply, each call names the first of its own list below; so a damaged header
  * hides damaged records, and a damaged record hides damaged slot entries.
  *
@@ -128,14 +144,16 @@ enum filz_number {
     FILZ_UNKNOWN_PARENT = 7,  /* no booking has the name of one of the parents */
     FILZ_PARENT_TWICE = 8,    /* two parents are the same */
     FILZ_FULL = 9,            /* 512 bookings are there already */
-    FILZ_UNKNOWN_NAME = 10,   /* no booking has this name */
+    FILZ_UNKNOWN_NAME = 10,   /* no booking has this name; or none is found by the index */
     FILZ_NOT_WAITING = 11,    /* the booking was polled before; the genesis counts as polled */
     FILZ_WRONG_VOTES = 12,    /* the number of votes isn't the ledger's k */
     FILZ_BAD_VOTE = 13,       /* a vote is neither FILZ_YES, FILZ_NO nor FILZ_SILENT */
     FILZ_DAMAGED_RECORD = 14, /* the header is right and a record breaks a rule; its number is the value */
     FILZ_DAMAGED_SLOT = 15,   /* header and records are right and a slot entry breaks a rule; its slot is the value */
     FILZ_SHORT_BUFFER = 16,   /* the buffer is shorter than the file; FILZ_FILE_MOST bytes are enough for any */
-    FILZ_BAD_FILE = 17        /* no ledger that calls could have made has this file; a byte missing, or one more, is enough */
+    FILZ_BAD_FILE = 17,       /* no ledger that calls could have made has this file; a byte missing, or one more, is enough */
+    FILZ_WRONG_INDEX = 18,    /* the index hasn't FILZ_CELLS cells */
+    FILZ_INDEX_FULL = 27      /* no cell of the index is empty */
 };
 
 /*
@@ -236,6 +254,42 @@ uint32_t filz_write_first(const uint16_t *ws, size_t words, uint8_t *out, size_t
  * Refuses, in this order: FILZ_WRONG_LENGTH, FILZ_BAD_FILE.
  */
 uint32_t filz_read_first(uint16_t *ws, size_t words, const uint8_t *file, size_t bytes, int64_t *value);
+
+/*
+ * Builds the index of the ledger, whatever its cells held before: all of them become empty, and the numbers 0 to n - 1 are
+ * entered in rising order. The value is 0. No word changes, and a refused call leaves every cell.
+ *
+ * `index` leads to `cells` cells, here and below, and may be NULL if there are none. It overlaps neither the workspace nor the
+ * value.
+ *
+ * Refuses, in this order: FILZ_WRONG_LENGTH, FILZ_WRONG_INDEX, FILZ_DAMAGED_HEADER, FILZ_DAMAGED_RECORD, FILZ_DAMAGED_SLOT.
+ */
+uint32_t filz_index_build(const uint16_t *ws, size_t words, uint16_t *index, size_t cells, int64_t *value);
+
+/*
+ * Enters the newest booking, number n - 1: the first empty cell from its name's home on gets the number. After a taken booking
+ * that makes the built index of what was the built index before it. The value is 0. No word and no other cell changes, and a
+ * refused call leaves every cell.
+ *
+ * Which numbers the cells hold already is not looked at: entering twice writes the number twice.
+ *
+ * Refuses, in this order: FILZ_WRONG_LENGTH, FILZ_WRONG_INDEX, FILZ_DAMAGED_HEADER, FILZ_DAMAGED_RECORD, FILZ_DAMAGED_SLOT,
+ * FILZ_INDEX_FULL.
+ */
+uint32_t filz_index_enter(const uint16_t *ws, size_t words, uint16_t *index, size_t cells, int64_t *value);
+
+/*
+ * Finds a booking by its name. The value is its number, 0 to n - 1. Probing from the name's home ends at a cell with a number
+ * below n whose booking has the name, which is then found, and at an empty cell. It passes over every other: those with another
+ * booking's number, and those with a number from n on. No word and no cell changes.
+ *
+ * By the built index every booked name is found. By another index, one that is stale, of another ledger or damaged, a booked
+ * name may be refused as unknown; but a number that is found is always that of the booking with the name.
+ *
+ * Refuses, in this order: FILZ_WRONG_LENGTH, FILZ_WRONG_INDEX, FILZ_DAMAGED_HEADER, FILZ_DAMAGED_RECORD, FILZ_DAMAGED_SLOT,
+ * FILZ_UNKNOWN_NAME.
+ */
+uint32_t filz_index_find(const uint16_t *ws, size_t words, const uint16_t *index, size_t cells, uint64_t name, int64_t *value);
 
 #ifdef __cplusplus
 }

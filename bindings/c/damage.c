@@ -102,7 +102,31 @@ static void write_one(const char *after)
     answered(number, value, after);
 }
 
-/* Every call but open and the reading of a file, each on its own copy: booking 5 on 1, polling 1, the five readings of 1, and writing the day file. */
+/* An index, built, with the newest booking entered, and asked for 1. A refused call must have left its cells alone too. */
+static void index_one(const char *after)
+{
+    static uint16_t cells[FILZ_CELLS], before[FILZ_CELLS];
+    int64_t value = 77;
+    memset(before, 77, sizeof before);
+    memcpy(cells, before, sizeof cells);
+    uint32_t number = filz_index_build(lent, FILZ_WORDS, cells, FILZ_CELLS, &value);
+    answered(number, value, ",");
+    value = 77;
+    number = filz_index_enter(lent, FILZ_WORDS, cells, FILZ_CELLS, &value);
+    answered(number, value, ",");
+    value = 77;
+    number = filz_index_find(lent, FILZ_WORDS, cells, FILZ_CELLS, 1, &value);
+    if (number != FILZ_TAKEN && memcmp(cells, before, sizeof cells) != 0) {
+        printf("a refused call changed a cell\n");
+        exit(1);
+    }
+    answered(number, value, after);
+}
+
+/*
+ * Every call but open and the reading of a file, each on its own copy: booking 5 on 1, polling 1, the five readings of 1, writing
+ * the day file, and the three calls with an index.
+ */
 static void answers(void)
 {
     const uint64_t one[1] = {1};
@@ -119,7 +143,8 @@ static void answers(void)
     read_one(filz_lead, ",");
     read_one(filz_confidence, ",");
     read_one(filz_size, ",");
-    write_one("\n");
+    write_one(",");
+    index_one("\n");
 }
 
 static void hit_word(size_t place, uint16_t word)
@@ -148,7 +173,7 @@ int main(void)
         printf("the ledger could not be made\n");
         return 1;
     }
-    printf("number and value of book, poll, query, accepted, lead, confidence, size, write_first\n");
+    printf("number and value of book, poll, query, accepted, lead, confidence, size, write_first, index_build, index_enter, index_find\n");
     memcpy(hit, good, sizeof hit);
     printf("no word hit:");
     answers();

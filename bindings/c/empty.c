@@ -1,6 +1,6 @@
 /*
  * Nothing lent: where a count is 0 its pointer may be NULL. Each call is then refused as with any other pointer, has value
- * 0 and changes no word and no byte. Prints nothing and ends with 0 if that is so.
+ * 0 and changes no word, no byte and no cell. Prints nothing and ends with 0 if that is so.
  */
 #include "filzhammer.h"
 
@@ -31,6 +31,7 @@ int main(void)
     uint16_t none[1] = {0};
     uint8_t out[1] = {77};
     const uint8_t file[1] = {0};
+    uint16_t cell[1] = {77};
     if (filz_open(ws, FILZ_WORDS, 1, 1, 1, 2, &value) != FILZ_TAKEN
         || filz_book(ws, FILZ_WORDS, 1, 7, genesis, 1, &value) != FILZ_TAKEN) {
         fprintf(stderr, "the ledger could not be made\n");
@@ -50,14 +51,20 @@ int main(void)
     expect(__LINE__, filz_size(NULL, 0, 1, &value), FILZ_WRONG_LENGTH);
     expect(__LINE__, filz_write_first(NULL, 0, out, 1, &value), FILZ_WRONG_LENGTH);
     expect(__LINE__, filz_read_first(NULL, 0, file, 1, &value), FILZ_WRONG_LENGTH);
+    expect(__LINE__, filz_index_build(NULL, 0, cell, 1, &value), FILZ_WRONG_LENGTH);
+    expect(__LINE__, filz_index_enter(NULL, 0, cell, 1, &value), FILZ_WRONG_LENGTH);
+    expect(__LINE__, filz_index_find(NULL, 0, cell, 1, 1, &value), FILZ_WRONG_LENGTH);
 
-    /* neither words nor parents nor votes nor bytes */
+    /* neither words nor parents nor votes nor bytes nor cells */
     expect(__LINE__, filz_book(NULL, 0, 2, 7, NULL, 0, &value), FILZ_WRONG_LENGTH);
     expect(__LINE__, filz_poll(NULL, 0, 1, NULL, 0, &value), FILZ_WRONG_LENGTH);
     expect(__LINE__, filz_write_first(NULL, 0, NULL, 0, &value), FILZ_WRONG_LENGTH);
     expect(__LINE__, filz_read_first(NULL, 0, NULL, 0, &value), FILZ_WRONG_LENGTH);
+    expect(__LINE__, filz_index_build(NULL, 0, NULL, 0, &value), FILZ_WRONG_LENGTH);
+    expect(__LINE__, filz_index_enter(NULL, 0, NULL, 0, &value), FILZ_WRONG_LENGTH);
+    expect(__LINE__, filz_index_find(NULL, 0, NULL, 0, 1, &value), FILZ_WRONG_LENGTH);
 
-    /* no parents, no votes, no bytes; and the same with a pointer */
+    /* no parents, no votes, no bytes, no cells; and the same with a pointer */
     expect(__LINE__, filz_book(ws, FILZ_WORDS, 2, 7, NULL, 0, &value), FILZ_BAD_PARENTS);
     expect(__LINE__, filz_book(ws, FILZ_WORDS, 2, 7, genesis, 0, &value), FILZ_BAD_PARENTS);
     expect(__LINE__, filz_poll(ws, FILZ_WORDS, 1, NULL, 0, &value), FILZ_WRONG_VOTES);
@@ -66,6 +73,12 @@ int main(void)
     expect(__LINE__, filz_write_first(ws, FILZ_WORDS, out, 0, &value), FILZ_SHORT_BUFFER);
     expect(__LINE__, filz_read_first(ws, FILZ_WORDS, NULL, 0, &value), FILZ_BAD_FILE);
     expect(__LINE__, filz_read_first(ws, FILZ_WORDS, file, 0, &value), FILZ_BAD_FILE);
+    expect(__LINE__, filz_index_build(ws, FILZ_WORDS, NULL, 0, &value), FILZ_WRONG_INDEX);
+    expect(__LINE__, filz_index_build(ws, FILZ_WORDS, cell, 0, &value), FILZ_WRONG_INDEX);
+    expect(__LINE__, filz_index_enter(ws, FILZ_WORDS, NULL, 0, &value), FILZ_WRONG_INDEX);
+    expect(__LINE__, filz_index_enter(ws, FILZ_WORDS, cell, 0, &value), FILZ_WRONG_INDEX);
+    expect(__LINE__, filz_index_find(ws, FILZ_WORDS, NULL, 0, 1, &value), FILZ_WRONG_INDEX);
+    expect(__LINE__, filz_index_find(ws, FILZ_WORDS, cell, 0, 1, &value), FILZ_WRONG_INDEX);
     expect(__LINE__, filz_open(none, 0, 1, 1, 1, 2, &value), FILZ_WRONG_LENGTH);
     expect(__LINE__, filz_write_first(none, 0, out, 0, &value), FILZ_WRONG_LENGTH);
     expect(__LINE__, filz_read_first(none, 0, file, 0, &value), FILZ_WRONG_LENGTH);
@@ -75,8 +88,8 @@ int main(void)
     expect(__LINE__, filz_book(ws, FILZ_WORDS, 2, 0, NULL, 0, &value), FILZ_BAD_SLOT);
     expect(__LINE__, filz_poll(ws, FILZ_WORDS, 9, NULL, 0, &value), FILZ_UNKNOWN_NAME);
     expect(__LINE__, filz_poll(ws, FILZ_WORDS, 0, NULL, 0, &value), FILZ_NOT_WAITING);
-    if (out[0] != 77) {
-        fprintf(stderr, "a byte changed\n");
+    if (out[0] != 77 || cell[0] != 77) {
+        fprintf(stderr, "a byte or a cell changed\n");
         wrong++;
     }
     return wrong != 0;

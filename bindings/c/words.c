@@ -1,7 +1,7 @@
 /*
- * Where each word stands: after the run below, after its day file was written, after refused calls and after that file was read
- * into other words, every word of the workspace is the one worked out by hand, at the place that the header names; and so it is
- * after a second run, in which a booking is accepted. Prints nothing and ends with 0 if that is so.
+ * Where each word stands: after the run below, after its day file was written and an index built, after refused calls and after
+ * that file was read into other words, every word of the workspace is the one worked out by hand, at the place that the header
+ * names; and so it is after a second run, in which a booking is accepted. Prints nothing and ends with 0 if that is so.
  */
 #include "filzhammer.h"
 
@@ -129,6 +129,16 @@ static int written(void)
     return filz_write_first(ws, FILZ_WORDS, file, sizeof file, &value) != FILZ_TAKEN || value != FILE_BYTES;
 }
 
+/* An index, built, with the newest booking entered once more, and asked for it: 0 if all are taken, with number 4 found. */
+static int indexed(void)
+{
+    static uint16_t cells[FILZ_CELLS];
+    int64_t build_value = 77, enter_value = 77, number = 77;
+    return filz_index_build(ws, FILZ_WORDS, cells, FILZ_CELLS, &build_value) != FILZ_TAKEN || build_value != 0
+        || filz_index_enter(ws, FILZ_WORDS, cells, FILZ_CELLS, &enter_value) != FILZ_TAKEN || enter_value != 0
+        || filz_index_find(ws, FILZ_WORDS, cells, FILZ_CELLS, 4, &number) != FILZ_TAKEN || number != 4;
+}
+
 /* The same file, read into words of which none is as it was: 0 if that is taken, with value 0. */
 static int read_again(void)
 {
@@ -156,13 +166,18 @@ static int refused(void)
     const uint64_t unknown[1] = {9};
     const uint8_t votes[3] = {FILZ_YES, FILZ_YES, FILZ_YES};
     uint8_t out[FILE_BYTES - 1];
+    static uint16_t zeros[FILZ_CELLS]; /* no cell is empty */
     int64_t open_value = 77, book_value = 77, poll_value = 77, lead_value = 77, write_value = 77, read_value = 77;
+    int64_t build_value = 77, enter_value = 77, find_value = 77;
     return filz_open(ws, FILZ_WORDS, 2, 1, 1, 2, &open_value) != FILZ_BAD_SETTING || open_value != 0
         || filz_book(ws, FILZ_WORDS, 5, 9, unknown, 1, &book_value) != FILZ_UNKNOWN_PARENT || book_value != 0
         || filz_poll(ws, FILZ_WORDS, 1, votes, 3, &poll_value) != FILZ_NOT_WAITING || poll_value != 0
         || filz_lead(ws, FILZ_WORDS, 9, &lead_value) != FILZ_UNKNOWN_NAME || lead_value != 0
         || filz_write_first(ws, FILZ_WORDS, out, sizeof out, &write_value) != FILZ_SHORT_BUFFER || write_value != 0
-        || filz_read_first(ws, FILZ_WORDS, file, FILE_BYTES - 1, &read_value) != FILZ_BAD_FILE || read_value != 0;
+        || filz_read_first(ws, FILZ_WORDS, file, FILE_BYTES - 1, &read_value) != FILZ_BAD_FILE || read_value != 0
+        || filz_index_build(ws, FILZ_WORDS, zeros, FILZ_CELLS - 1, &build_value) != FILZ_WRONG_INDEX || build_value != 0
+        || filz_index_enter(ws, FILZ_WORDS, zeros, FILZ_CELLS, &enter_value) != FILZ_INDEX_FULL || enter_value != 0
+        || filz_index_find(ws, FILZ_WORDS, zeros, FILZ_CELLS, 4, &find_value) != FILZ_UNKNOWN_NAME || find_value != 0;
 }
 
 int main(void)
@@ -174,6 +189,10 @@ int main(void)
     }
     if (written() != 0) {
         fprintf(stderr, "the day file was refused or has another length\n");
+        return 1;
+    }
+    if (indexed() != 0) {
+        fprintf(stderr, "the index was refused or 4 was not found\n");
         return 1;
     }
     if (refused() != 0) {

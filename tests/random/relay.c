@@ -2,9 +2,9 @@
  * Makes calls of the C face for whoever asks through a pipe: for a caller that cannot link the library, because it is
  * compiled for another machine than x86-64.
  *
- * A request is a struct asked, the words, the parents or the votes, and the bytes of a buffer for a file or of a file to be
- * read; the answer is a struct told, and the words and those bytes as the call left them. Both sides have the lowest byte
- * first. Ends with the input.
+ * A request is a struct asked, the words, the parents or the votes, the bytes of a buffer for a file or of a file to be
+ * read, and the cells of an index; the answer is a struct told, and the words, those bytes and those cells as the call left
+ * them. Both sides have the lowest byte first. Ends with the input.
  */
 #include "filzhammer.h"
 
@@ -12,7 +12,21 @@
 #include <stdlib.h>
 
 /* The calls, in the order of the header. */
-enum kind { OPEN, BOOK, POLL, QUERY, ACCEPTED, LEAD, CONFIDENCE, SIZE, WRITE_FIRST, READ_FIRST };
+enum kind {
+    OPEN,
+    BOOK,
+    POLL,
+    QUERY,
+    ACCEPTED,
+    LEAD,
+    CONFIDENCE,
+    SIZE,
+    WRITE_FIRST,
+    READ_FIRST,
+    INDEX_BUILD,
+    INDEX_ENTER,
+    INDEX_FIND
+};
 
 struct asked {
     uint64_t kind;
@@ -20,12 +34,13 @@ struct asked {
     uint64_t name;
     uint64_t count;      /* of parents or votes */
     uint64_t room;       /* bytes of the buffer or the file */
+    uint64_t cells;      /* of the index */
     uint16_t numbers[4]; /* the slot, or the setting */
 };
 
 struct told {
     uint64_t number;
-    uint64_t is_intact; /* nothing beside the lent words and the lent bytes was written */
+    uint64_t is_intact; /* nothing beside the lent words, bytes and cells was written */
     int64_t value;
 };
 
@@ -97,12 +112,18 @@ static struct lent lend(size_t count, size_t odd)
     return lent;
 }
 
+/* What is lent from an even place, as words. */
+static uint16_t *words_of(const struct lent *lent)
+{
+    return (uint16_t *)(void *)lent->bytes;
+}
+
 static int is_intact(const struct lent *lent)
 {
     return is_guard(lent->bytes - GUARD) && is_guard(lent->bytes + lent->count);
 }
 
-static uint32_t call(const struct asked *asked, uint16_t *ws, const void *list, uint8_t *out, int64_t *value)
+static uint32_t call(const struct asked *asked, uint16_t *ws, const void *list, uint8_t *out, uint16_t *index, int64_t *value)
 {
     const size_t words = asked->words;
     const uint64_t name = asked->name;
@@ -128,6 +149,12 @@ static uint32_t call(const struct asked *asked, uint16_t *ws, const void *list, 
         return filz_write_first(ws, words, out, asked->room, value);
     case READ_FIRST:
         return filz_read_first(ws, words, out, asked->room, value);
+    case INDEX_BUILD:
+        return filz_index_build(ws, words, index, asked->cells, value);
+    case INDEX_ENTER:
+        return filz_index_enter(ws, words, index, asked->cells, value);
+    case INDEX_FIND:
+        return filz_index_find(ws, words, index, asked->cells, name, value);
     }
     give_up("no such call");
     return 0;
@@ -138,17 +165,20 @@ static void serve(const struct asked *asked)
     const size_t listed = asked->count * (asked->kind == BOOK ? sizeof(uint64_t) : 1);
     struct lent words = lend(asked->words * sizeof(uint16_t), 0);
     void *list = room(listed);
-    struct lent out;
+    struct lent out, index;
     struct told told = {0, 0, 0x5a5a5a5a}; /* so that a value that is not written shows */
     read_all(list, listed);
     out = lend(asked->room, 1);
-    told.number = call(asked, (uint16_t *)(void *)words.bytes, list, out.bytes, &told.value);
-    told.is_intact = is_intact(&words) && is_intact(&out);
+    index = lend(asked->cells * sizeof(uint16_t), 0);
+    told.number = call(asked, words_of(&words), list, out.bytes, words_of(&index), &told.value);
+    told.is_intact = is_intact(&words) && is_intact(&out) && is_intact(&index);
     write_all(&told, sizeof told);
     write_all(words.bytes, words.count);
     write_all(out.bytes, out.count);
+    write_all(index.bytes, index.count);
     if (fflush(stdout) != 0)
         give_up("nobody takes the answer");
+    free(index.memory);
     free(out.memory);
     free(list);
     free(words.memory);

@@ -5,6 +5,7 @@
 use crate::Refusal;
 
 type Reading = unsafe extern "C" fn(*const u16, usize, u64, *mut i64) -> u32;
+type Indexing = unsafe extern "C" fn(*const u16, usize, *mut u16, usize, *mut i64) -> u32;
 
 extern "C" {
     fn filz_open(
@@ -52,6 +53,28 @@ extern "C" {
         bytes: usize,
         value: *mut i64,
     ) -> u32;
+    fn filz_index_build(
+        ws: *const u16,
+        words: usize,
+        index: *mut u16,
+        cells: usize,
+        value: *mut i64,
+    ) -> u32;
+    fn filz_index_enter(
+        ws: *const u16,
+        words: usize,
+        index: *mut u16,
+        cells: usize,
+        value: *mut i64,
+    ) -> u32;
+    fn filz_index_find(
+        ws: *const u16,
+        words: usize,
+        index: *const u16,
+        cells: usize,
+        name: u64,
+        value: *mut i64,
+    ) -> u32;
 }
 
 /// A call that writes its value through the pointer: the value if it is taken, else the refusal.
@@ -67,6 +90,19 @@ fn ask(call: impl FnOnce(*mut i64) -> u32) -> Result<i64, Refusal> {
 fn read(reading: Reading, ws: &[u16], name: u64) -> Result<i64, Refusal> {
     // SAFETY: see the top of this file.
     ask(|value| unsafe { reading(ws.as_ptr(), ws.len(), name, value) })
+}
+
+fn write_cells(indexing: Indexing, ws: &[u16], index: &mut [u16]) -> Result<i64, Refusal> {
+    // SAFETY: see the top of this file.
+    ask(|value| unsafe {
+        indexing(
+            ws.as_ptr(),
+            ws.len(),
+            index.as_mut_ptr(),
+            index.len(),
+            value,
+        )
+    })
 }
 
 pub fn open(ws: &mut [u16], k: u16, a: u16, beta1: u16, beta2: u16) -> Result<i64, Refusal> {
@@ -134,5 +170,27 @@ pub fn read_first(ws: &mut [u16], file: &[u8]) -> Result<i64, Refusal> {
     // SAFETY: see the top of this file.
     ask(|value| unsafe {
         filz_read_first(ws.as_mut_ptr(), ws.len(), file.as_ptr(), file.len(), value)
+    })
+}
+
+pub fn index_build(ws: &[u16], index: &mut [u16]) -> Result<i64, Refusal> {
+    write_cells(filz_index_build, ws, index)
+}
+
+pub fn index_enter(ws: &[u16], index: &mut [u16]) -> Result<i64, Refusal> {
+    write_cells(filz_index_enter, ws, index)
+}
+
+pub fn index_find(ws: &[u16], index: &[u16], name: u64) -> Result<i64, Refusal> {
+    // SAFETY: see the top of this file.
+    ask(|value| unsafe {
+        filz_index_find(
+            ws.as_ptr(),
+            ws.len(),
+            index.as_ptr(),
+            index.len(),
+            name,
+            value,
+        )
     })
 }

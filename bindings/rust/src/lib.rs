@@ -3,6 +3,7 @@
 //! A caller lends [`WORDS`] words of 16 bits. [`open`] makes them a ledger, [`book`] enters a booking, [`poll`] enters the
 //! votes of a completed poll, and the readings [`query`], [`accepted`], [`lead`], [`confidence`] and [`size`] answer by name.
 //! [`write_first`] writes the ledger as a file, into bytes that are lent too, and [`read_first`] makes a ledger of such a file.
+//! [`index_find`] tells a booking's number by its name, from an index of [`CELLS`] words that are lent as well.
 //! Nothing is allocated and nothing is kept outside the lent words: copy them, store them, or have as many ledgers as you like.
 //!
 //! ```
@@ -28,13 +29,15 @@
 //!
 //! 1. **Every call ends in an answer, and a refused call leaves no trace.** Any words and any arguments may be passed; nothing
 //!    has to be tested first, and no call panics. Which refusal is given is settled for every input, the first of the call's
-//!    list that applies, and so is the row that it names. Then no word has changed, and no byte of a buffer for a file.
+//!    list that applies, and so is the row that it names. Then no word has changed, no byte of a buffer for a file, and no cell
+//!    of an index.
 //!    Whatever a taken call leaves is again a sound ledger.
 //! 2. **Answers and words are those of the rules, to the last word.** The rules say what an ancestry is (the booking and
 //!    everything reached through parents, each once), when a poll succeeds and what it writes, what a query answers,
-//!    when a booking is accepted, and each byte of a day file. For the same words and arguments there is one possible outcome, and it is this one. Of the
-//!    bookings of a slot never more than one is accepted at a time, and who is accepted stays so until the next taken opening or
-//!    reading of a day file.
+//!    when a booking is accepted, each byte of a day file, and each cell of an index. For the same words and arguments there is
+//!    one possible outcome, and it is this one. Of the bookings of a slot never more than one is accepted at a time, and who is
+//!    accepted stays so until the next taken opening or reading of a day file. By the built index a name is found exactly if it
+//!    is booked.
 //! 3. **Confidence is earned.** Over every run since the last taken opening or reading of a day file, whatever calls came in
 //!    whatever order: a booking's confidence is the number of successful polls of bookings that have it in their ancestry, those
 //!    of the file among them; all confidences together are the sum of those ancestries' sizes; and no booking has more
@@ -175,6 +178,34 @@
 //! assert_eq!(accepted(&theirs, 1), Ok(0)); // not alone, and the counter is not above beta2
 //! # Ok::<(), Refusal>(())
 //! ```
+//!
+//! # The index
+//!
+//! An index tells a booking's number by its name: [`CELLS`] words of 16 bits that are lent beside the ledger, its cells. A cell
+//! holds a number, or 65535 if it is empty. [`index_build`] makes an index, and [`index_enter`] keeps it.
+//!
+//! ```
+//! use filzhammer::{book, index_build, index_enter, index_find, open, poll, Refusal, Setting, CELLS, WORDS, YES};
+//!
+//! let (mut ledger, mut index) = ([0u16; WORDS], [0u16; CELLS]);
+//! open(&mut ledger, Setting { k: 1, a: 1, beta1: 1, beta2: 2 })?;
+//! index_build(&ledger, &mut index)?; // after each opening, and after each day file that is read
+//! book(&mut ledger, 1, 7, &[0])?;
+//! assert_eq!(index_find(&ledger, &index, 1), Err(Refusal::UnknownName)); // booked, and not entered yet
+//! index_enter(&ledger, &mut index)?; // after each booking that is taken
+//! assert_eq!(index_find(&ledger, &index, 1), Ok(1));
+//! book(&mut ledger, 1390, 8, &[1])?;
+//! index_enter(&ledger, &mut index)?;
+//! assert_eq!(index[978..981], [1, 2, 65535]); // 978 is the home of both names
+//! poll(&mut ledger, 1390, &[YES])?; // polls and readings change nothing that an index depends on
+//! assert_eq!(index_find(&ledger, &index, 1390), Ok(2));
+//! assert_eq!(index_find(&ledger, &index, 2), Err(Refusal::UnknownName));
+//! # Ok::<(), Refusal>(())
+//! ```
+//!
+//! Nothing in an index says to which ledger it belongs. By one that is stale, another ledger's or damaged a booked name may be
+//! refused as unknown, but a number that is found is always that of the booking with the name. `docs/INDEX.md` of the repository
+//! has the cells of an example.
 #![no_std]
 #![warn(missing_docs)]
 
@@ -195,6 +226,9 @@ pub const FILE_LEAST: usize = 14;
 /// How many bytes the longest day file has, that of a full ledger with as many parents as there can be and all polls. A
 /// buffer of so many bytes has room for every file.
 pub const FILE_MOST: usize = 12266;
+
+/// How many cells an index has.
+pub const CELLS: usize = 1024;
 
 /// The vote of a station that prefers the booking and its whole ancestry.
 pub const YES: u8 = 1;
@@ -326,4 +360,41 @@ pub fn write_first(ws: &[u16], out: &mut [u8]) -> Result<usize, Refusal> {
 /// Refuses [`WrongLength`](Refusal::WrongLength), [`BadFile`](Refusal::BadFile), in this order.
 pub fn read_first(ws: &mut [u16], file: &[u8]) -> Result<(), Refusal> {
     face::read_first(ws, file).map(drop)
+}
+
+/// Builds the index of the ledger, whatever its cells held: all of them become empty, 65535, and then the numbers of all
+/// bookings are entered in rising order, each as [`index_enter`] does it. If it is refused, every cell stays.
+///
+/// Refuses [`WrongLength`](Refusal::WrongLength), [`WrongIndex`](Refusal::WrongIndex),
+/// [`DamagedHeader`](Refusal::DamagedHeader), [`DamagedRecord`](Refusal::DamagedRecord),
+/// [`DamagedSlot`](Refusal::DamagedSlot), in this order.
+pub fn index_build(ws: &[u16], index: &mut [u16]) -> Result<(), Refusal> {
+    face::index_build(ws, index).map(drop)
+}
+
+/// Enters the newest booking: its number goes into the first empty cell from its name's home on, round the end to cell 0. After a
+/// booking that was taken, this makes its built index of the built index before it. If it is refused, every cell stays.
+///
+/// A name's home is the 32-bit FNV-1a hash of its eight bytes, the highest first, modulo [`CELLS`]. Which numbers the cells hold
+/// already is not looked at: entering twice writes the number twice.
+///
+/// Refuses [`WrongLength`](Refusal::WrongLength), [`WrongIndex`](Refusal::WrongIndex),
+/// [`DamagedHeader`](Refusal::DamagedHeader), [`DamagedRecord`](Refusal::DamagedRecord),
+/// [`DamagedSlot`](Refusal::DamagedSlot), [`IndexFull`](Refusal::IndexFull), in this order.
+pub fn index_enter(ws: &[u16], index: &mut [u16]) -> Result<(), Refusal> {
+    face::index_enter(ws, index).map(drop)
+}
+
+/// The number of the booking with this name, as probing finds it: from the name's home on, round the end to cell 0, until a cell
+/// has the number of that booking, or is empty, or all were tried. Other bookings' numbers, and numbers that no booking has, are
+/// passed over.
+///
+/// By the built index every booked name is found. By any index a number that is found is that of the booking with the name.
+///
+/// Refuses [`WrongLength`](Refusal::WrongLength), [`WrongIndex`](Refusal::WrongIndex),
+/// [`DamagedHeader`](Refusal::DamagedHeader), [`DamagedRecord`](Refusal::DamagedRecord),
+/// [`DamagedSlot`](Refusal::DamagedSlot), [`UnknownName`](Refusal::UnknownName), in this order.
+pub fn index_find(ws: &[u16], index: &[u16], name: u64) -> Result<usize, Refusal> {
+    // A number of at most 511.
+    face::index_find(ws, index, name).map(|number| number as usize)
 }

@@ -26,7 +26,7 @@ pub enum Refusal {
     ParentTwice,
     /// 512 bookings are there already.
     Full,
-    /// No booking has the name.
+    /// No booking has the name; or none is found by the index.
     UnknownName,
     /// The booking was polled before. The genesis counts as polled.
     NotWaiting,
@@ -46,6 +46,10 @@ pub enum Refusal {
     ShortBuffer,
     /// The file isn't [good](crate::read_first): no ledger that calls could have made has it.
     BadFile,
+    /// The index hasn't [`CELLS`](crate::CELLS) cells.
+    WrongIndex,
+    /// No cell of the index is empty.
+    IndexFull,
 }
 
 impl Refusal {
@@ -69,6 +73,8 @@ impl Refusal {
             Refusal::DamagedSlot(_) => 15,
             Refusal::ShortBuffer => 16,
             Refusal::BadFile => 17,
+            Refusal::WrongIndex => 18,
+            Refusal::IndexFull => 27,
         }
     }
 
@@ -114,6 +120,8 @@ impl Refusal {
             (15, 0..=255) => Refusal::DamagedSlot(row),
             (16, 0) => Refusal::ShortBuffer,
             (17, 0) => Refusal::BadFile,
+            (18, 0) => Refusal::WrongIndex,
+            (27, 0) => Refusal::IndexFull,
             _ => return None,
         })
     }
@@ -137,6 +145,8 @@ impl fmt::Display for Refusal {
             Refusal::BadVote => "a vote is neither yes, no nor silent",
             Refusal::ShortBuffer => "the buffer is shorter than the file",
             Refusal::BadFile => "the day file is not good",
+            Refusal::WrongIndex => "the index has the wrong length",
+            Refusal::IndexFull => "no cell of the index is empty",
             Refusal::DamagedRecord(512) => "an ordinal is missing in a full ledger (record 512)",
             Refusal::DamagedRecord(record) => {
                 return write!(f, "record {record} breaks a rule, and none below it")

@@ -1,5 +1,5 @@
 //! Each refusal on both sides of its border, in its order, with no word changed. Damage, 2, 14 and 15, has `damage.rs`, 16 has
-//! `day_file.rs`, and 17 has `read_file.rs`.
+//! `day_file.rs`, 17 has `read_file.rs`, and 18 and 27 have `index.rs`.
 use filzhammer::*;
 
 mod refused;
@@ -23,7 +23,7 @@ fn ledger() -> [u16; WORDS] {
 }
 
 /// Each refusal once, the rows by their greatest.
-const EACH: [Refusal; 17] = [
+const EACH: [Refusal; 19] = [
     Refusal::WrongLength,
     Refusal::DamagedHeader,
     Refusal::BadSetting,
@@ -41,13 +41,15 @@ const EACH: [Refusal; 17] = [
     Refusal::DamagedSlot(255),
     Refusal::ShortBuffer,
     Refusal::BadFile,
+    Refusal::WrongIndex,
+    Refusal::IndexFull,
 ];
 
 #[test]
-fn the_numbers_are_1_to_17() {
+fn the_numbers_are_1_to_18_and_27() {
     assert_eq!(
         EACH.map(Refusal::number).to_vec(),
-        (1..=17).collect::<Vec<u32>>()
+        (1..=18).chain([27]).collect::<Vec<u32>>()
     );
     for refusal in EACH {
         assert!(!refusal.to_string().is_empty());
@@ -98,12 +100,12 @@ fn number_and_value_lead_back() {
             assert_eq!(Refusal::from_answer(number, value), None);
         }
     }
-    for number in (1..=13).chain([16, 17]) {
+    for number in (1..=13).chain([16, 17, 18, 27]) {
         for value in [-1, 1, 65536] {
             assert_eq!(Refusal::from_answer(number, value), None);
         }
     }
-    for number in [0, 18, u32::MAX] {
+    for number in [0, 19, 26, 28, u32::MAX] {
         assert_eq!(Refusal::from_answer(number, 0), None);
     }
 }

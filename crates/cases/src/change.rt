@@ -1,28 +1,30 @@
 // Words changed behind the ledger's back.
 use crate::Done;
 use rules::layout;
-ghost use Prim.Native.Nat.{_<_};
+ghost use Prim.Native.Nat.{_≤_, _<_};
 
 // No row, no field and no word is above it.
 const MOST: u64 = 65535;
 
-// The numbers after the first word of a line, and zeros.
-fn numbers(line: &[u8]) -> [u64; 3] {
+// The numbers after the first word of a line, each within the limit, and zeros.
+pub(crate) fn numbers(line: &[u8], most: u64) -> [u64; 3]
+    requires { ⌜ 9 ≤ most ⌝ }
+{
     let mut ns = [0u64; 3];
     let end = line_words::word_end(line);
     if end <= line.len() {
-        line_scan::many::read_numbers(line, end, MOST, &mut ns);
+        line_scan::many::read_numbers(line, end, most, &mut ns);
     }
     ns
 }
 
-fn small(n: u64) -> usize
+pub(crate) fn small(n: u64) -> usize
     ensures { λ r. ⌜ r < 65536 ⌝ }
 {
     if n <= MOST { n as usize } else { 0 }
 }
 
-fn short(n: u64) -> u16 {
+pub(crate) fn short(n: u64) -> u16 {
     if n <= MOST { n as u16 } else { 0 }
 }
 
@@ -50,7 +52,7 @@ fn get(w: &[u16], at: usize) -> u16 {
     if at < w.len() { w[at] } else { 0 }
 }
 
-fn set(w: &mut [u16], at: usize, v: u16) {
+pub(crate) fn set(w: &mut [u16], at: usize, v: u16) {
     if at < w.len() {
         w[at] = v;
     }
@@ -58,7 +60,7 @@ fn set(w: &mut [u16], at: usize, v: u16) {
 
 // For good; or, with a rule to show, while the size of the booking with name 4 is asked for.
 pub(crate) fn change(line: &[u8], first: u8, has_rule: bool, w: &mut [u16]) -> Done {
-    let ns = numbers(line);
+    let ns = numbers(line, MOST);
     let at = place(first, ns);
     let was = get(w, at);
     set(w, at, value(first, ns));

@@ -9,9 +9,14 @@
 //   entry s f v       and one of slot entry s
 //   header f v | ..   the same, but only while the size of the booking with name 4 is asked for
 //   fill, vote        510 bookings in a chain, and a poll of each of 511
+//   index build n | .. a call with the first n cells of an index, and so are enter n and find n name
+//   index cell c v    cell c becomes v
+//   index all v       and so does every cell
 //
-// Each line is written again. A call's has its outcome after it: whether any word moved, the number and the value.
+// Each line is written again. A call's has its outcome after it: whether any word moved, or any cell by a call with an index,
+// the number and the value.
 mod call;
+mod cells;
 mod change;
 mod many;
 mod show;
@@ -67,6 +72,16 @@ fn lent_work(line: &[u8], first: u8, w: &mut [u16], lent: usize) -> Done {
     }
 }
 
+// The same for a line about the index.
+fn lent_index(line: &[u8], w: &[u16], lent: usize, cells: &mut Words) -> Done {
+    let end = command_end(line);
+    if lent <= w.len() {
+        cells::work(&line[..end], &w[..lent], cells)
+    } else {
+        Done::Nothing
+    }
+}
+
 fn same(a: &Words, b: &Words) -> bool {
     for j in 0..LONG {
         if a[j] != b[j] {
@@ -82,6 +97,13 @@ fn tell(line: &[u8], first: u8, w: &mut Words, lent: usize) {
     show::done(same(&before, w), done);
 }
 
+// The cells are the first of as many words as a ledger may be lent, so that one written past them is seen.
+fn tell_index(line: &[u8], w: &Words, lent: usize, cells: &mut Words) {
+    let before = *cells;
+    let done = lent_index(line, w, lent, cells);
+    show::done(same(&before, cells), done);
+}
+
 // `words n`.
 fn lend(line: &[u8]) -> usize {
     let end = line_words::word_end(line);
@@ -92,7 +114,7 @@ fn lend(line: &[u8]) -> usize {
 }
 
 // Obeys a line, and answers how many words are lent from here on.
-fn obey(line: &[u8], w: &mut Words, noted: &mut Words, lent: usize) -> usize {
+fn obey(line: &[u8], w: &mut Words, noted: &mut Words, cells: &mut Words, lent: usize) -> usize {
     show::text(line);
     if line.len() < 1 {
         show::text(b"\n");
@@ -112,6 +134,7 @@ fn obey(line: &[u8], w: &mut Words, noted: &mut Words, lent: usize) -> usize {
             show::text(b"\n");
             *w = *noted;
         }
+        b'i' => tell_index(line, w, lent, cells),
         _ => tell(line, first, w, lent),
     }
     lent
@@ -120,11 +143,12 @@ fn obey(line: &[u8], w: &mut Words, noted: &mut Words, lent: usize) -> usize {
 fn run(script: &[u8]) {
     let mut w: Words = [0; LONG];
     let mut noted: Words = [0; LONG];
+    let mut cells: Words = [0; LONG];
     let mut lent = layout::SIZE;
     let mut at = 0;
     while at < script.len() {
         let end = bytes::scan::find(script, at, script.len(), b'\n');
-        lent = obey(&script[at..end], &mut w, &mut noted, lent);
+        lent = obey(&script[at..end], &mut w, &mut noted, &mut cells, lent);
         at = end + 1;
     }
 }

@@ -1,9 +1,9 @@
 -- Number and value say all that an answer does: each refusal is found again by them. Assumes nothing.
 use mathlib.Core.Path.{_≡_, refl, sym, ap, ap₂, _∙_}
-use mathlib.Core.List.{List, [], _∷_}
+use mathlib.Core.List.{List, [], _∷_, _++_}
 use Prim.Native.Nat.{ℕ}
 use lib.IntN.{ℤ, natAbs}
-use lib.ListN.{getD}
+use lib.ListN.{getD, replicate}
 use Rattle.terms.specs.declared.answer.Refusal.{Refusal}
 use Rattle.terms.specs.declared.answer.Refusal.the-variants.{
   WrongLength,
@@ -23,13 +23,15 @@ use Rattle.terms.specs.declared.answer.Refusal.the-variants.{
   DamagedSlot,
   ShortBuffer,
   BadFile,
+  WrongIndex,
+  IndexFull,
 }
 use Rattle.terms.specs.declared.answer.Answer.the-variants.{Taken, Refused}
 use Rattle.terms.specs.Answers.{number, value}
 use Rattle.rule_laws.proofs.Calls.{number-refused}
 use Rattle.code_promises.specs.OfCode.{AnswerTold}
 
--- the refusals in the order of their numbers, those that name a row with this one; 0 is none's
+-- the refusals in the order of their numbers, those that name a row with this one; 0 and 19 to 26 are none's
 abbrev refusals : ℕ → List Refusal
 refusals row =
     WrongLength
@@ -50,6 +52,8 @@ refusals row =
     ∷ DamagedSlot row
     ∷ ShortBuffer
     ∷ BadFile
+    ∷ WrongIndex
+    ∷ replicate 8 WrongLength ++ IndexFull
     ∷ []
 
 abbrev refusalAt : ℕ → ℤ → Refusal
@@ -73,6 +77,8 @@ found-again (DamagedRecord row) = refl
 found-again (DamagedSlot row) = refl
 found-again ShortBuffer = refl
 found-again BadFile = refl
+found-again WrongIndex = refl
+found-again IndexFull = refl
 
 pub answer-told : AnswerTold
 unfolding AnswerTold

@@ -1,5 +1,5 @@
 -- What the law gives for a call is an outcome that the contract of its function allows. Assumes nothing.
-use mathlib.Core.Path.{refl, sym, ap}
+use mathlib.Core.Path.{_≡_, refl, sym, ap}
 use mathlib.Core.List.{List, []}
 use Prim.Native.Nat.{ℕ}
 use lib.IntN.{pos}
@@ -9,12 +9,13 @@ use borrow.Fn.Kinds.{In, Out}
 use Rattle.terms.specs.declared.setting.Setting.{Setting}
 use Rattle.terms.specs.declared.answer.Reading.the-variants.{Query, Accepted, Lead, Confidence, Size}
 use Rattle.terms.specs.declared.answer.Answer.{Answer}
-use Rattle.terms.specs.Answers.{Outcome, handover, number, value}
+use Rattle.terms.specs.Answers.{Outcome, Handover, handover, number, value}
 use Rattle.rules.specs.Calls.{openCall, bookCall, pollCall, queryCall, acceptedCall, leadCall, confidenceCall, sizeCall}
 use Rattle.day_file.specs.Calls.{writeFirstCall, readFirstCall}
-use Rattle.promises.specs.Run.{Open, Book, Poll, Ask, WriteFirst, ReadFirst}
-use Rattle.promises.proofs.Taken.{write-words}
-use Rattle.station.specs.Returned.{Returned, Handed}
+use Rattle.name_index.specs.Calls.{indexBuildCall, indexEnterCall, indexFindCall}
+use Rattle.promises.specs.Run.{Open, Book, Poll, Ask, WriteFirst, ReadFirst, IndexBuild, IndexEnter, IndexFind}
+use Rattle.promises.proofs.Taken.{write-words, build-words, enter-words}
+use Rattle.station.specs.Returned.{Returned, Handed, HandedOver}
 use Rattle.code_promises.specs.Contract.{contractOf, Allowed, endedBy}
 use Rattle.code_promises.specs.OfCode.{Makes, CodeCallable}
 use Rattle.code_promises.proofs.Functions.{
@@ -23,11 +24,13 @@ use Rattle.code_promises.proofs.Functions.{
   by-poll,
   by-write-first,
   by-read-first,
+  by-find,
   by-filz-open,
   by-filz-book,
   by-filz-poll,
   by-filz-write-first,
   by-filz-read-first,
+  by-filz-index-find,
   function,
   of-ledger,
   of-station,
@@ -45,7 +48,15 @@ own a = record { numbered = refl; valued = refl }
 handed : (o : Outcome) → Handed o (number (o .answer)) (value (o .answer)) (o .words)
 handed o = record { told = own (o .answer); words = refl }
 
--- ---- the ledger's functions
+-- the law leaves the words that are only lent
+left-words : (o : Handover) {w : List ℕ} → o .words ≡ w → handover (o .answer) w (o .lent) ≡ o
+left-words o e = ap (λ words. handover (o .answer) words (o .lent)) (sym e)
+
+-- what is handed over of a call that leaves the words
+over : (o : Handover) {w : List ℕ} → o .words ≡ w → HandedOver o (number (o .answer)) (value (o .answer)) w (o .lent)
+over o e = record { told = own (o .answer); words = sym e; lent = refl }
+
+-- ---- the ledger's functions, and the index's
 
 open-callable : (s : Setting) (w : List ℕ) → Makes function by-open (Open s) w
 open-callable s w =
@@ -96,7 +107,7 @@ write-first-callable buffer w =
         given = (lent w, (lent buffer, tt));
         returned = o .answer;
         last = (tt, (o .lent, tt));
-        learnt = ap (λ words. handover (o .answer) words (o .lent)) (sym (write-words w buffer));
+        learnt = left-words o (write-words w buffer);
       };
       asks = refl;
       words = refl;
@@ -107,6 +118,29 @@ read-first-callable file w =
     let o = readFirstCall w file in
     record {
       allowed = record { at = ([], ([], tt)); given = (lent w, (lent file, tt)); returned = o .answer; last = (o .words, (tt, tt)); learnt = refl };
+      asks = refl;
+      words = refl;
+    }
+
+-- a call that changes an index, with a handover that its contract allows
+abbrev index : {Asked : In 2 code.build.Kinds.ps} {Learnt : Out 2 code.build.Kinds.ps code.build.Kinds.r} →
+    let f = contractOf 2 code.build.Kinds.ps code.build.Kinds.r Asked Learnt in
+    (cells w : List ℕ) (o : Handover) →
+    Learnt ([], ([], tt)) (lent w, (lent cells, tt)) (o .answer) (atExit (endedBy f) ([], ([], tt)) (lent w, (lent cells, tt)) (tt, (o .lent, tt))) →
+    Allowed f
+index cells w o learnt =
+    record { at = ([], ([], tt)); given = (lent w, (lent cells, tt)); returned = o .answer; last = (tt, (o .lent, tt)); learnt = learnt }
+
+find-callable : (cells : List ℕ) (name : ℕ) (w : List ℕ) → Makes function by-find (IndexFind cells name) w
+find-callable cells name w =
+    record {
+      allowed = record {
+        at = ([], ([], tt));
+        given = (lent w, (lent cells, (name, tt)));
+        returned = indexFindCall w cells name;
+        last = (tt, (tt, (tt, tt)));
+        learnt = refl;
+      };
       asks = refl;
       words = refl;
     }
@@ -130,6 +164,13 @@ ledger-callable (Ask Confidence name) w = record { allowed = read name w (confid
 ledger-callable (Ask Size name) w = record { allowed = read name w (sizeCall w name) refl; asks = refl; words = refl }
 ledger-callable (WriteFirst buffer) w = write-first-callable buffer w
 ledger-callable (ReadFirst file) w = read-first-callable file w
+ledger-callable (IndexBuild cells) w =
+    let o = indexBuildCall w cells in
+    record { allowed = index cells w o (left-words o (build-words w cells)); asks = refl; words = refl }
+ledger-callable (IndexEnter cells) w =
+    let o = indexEnterCall w cells in
+    record { allowed = index cells w o (left-words o (enter-words w cells)); asks = refl; words = refl }
+ledger-callable (IndexFind cells name) w = find-callable cells name w
 
 -- ---- the C face's functions
 
@@ -187,7 +228,7 @@ filz-write-first-callable buffer w =
         given = (lent w, (lent buffer, (lent (pos 0), tt)));
         returned = number (o .answer);
         last = (tt, (o .lent, (value (o .answer), tt)));
-        learnt = record { told = own (o .answer); words = sym (write-words w buffer); lent = refl };
+        learnt = over o (write-words w buffer);
       };
       asks = refl;
       words = refl;
@@ -203,6 +244,36 @@ filz-read-first-callable file w =
         returned = number (o .answer);
         last = (o .words, (tt, (value (o .answer), tt)));
         learnt = handed o;
+      };
+      asks = refl;
+      words = refl;
+    }
+
+abbrev filz-index : {Asked : In 3 code.filz_index_build.Kinds.ps} {Learnt : Out 3 code.filz_index_build.Kinds.ps code.filz_index_build.Kinds.r} →
+    let f = contractOf 3 code.filz_index_build.Kinds.ps code.filz_index_build.Kinds.r Asked Learnt in
+    (cells w : List ℕ) (o : Handover) →
+    Learnt ([], ([], ([], tt))) (lent w, (lent cells, (lent (pos 0), tt))) (number (o .answer))
+    (atExit (endedBy f) ([], ([], ([], tt))) (lent w, (lent cells, (lent (pos 0), tt))) (tt, (o .lent, (value (o .answer), tt)))) →
+    Allowed f
+filz-index cells w o learnt =
+    record {
+      at = ([], ([], ([], tt)));
+      given = (lent w, (lent cells, (lent (pos 0), tt)));
+      returned = number (o .answer);
+      last = (tt, (o .lent, (value (o .answer), tt)));
+      learnt = learnt;
+    }
+
+filz-find-callable : (cells : List ℕ) (name : ℕ) (w : List ℕ) → Makes function by-filz-index-find (IndexFind cells name) w
+filz-find-callable cells name w =
+    let r = indexFindCall w cells name in
+    record {
+      allowed = record {
+        at = ([], ([], ([], tt)));
+        given = (lent w, (lent cells, (name, (lent (pos 0), tt))));
+        returned = number r;
+        last = (tt, (tt, (tt, (value r, tt))));
+        learnt = own r;
       };
       asks = refl;
       words = refl;
@@ -229,3 +300,10 @@ station-callable (Ask Confidence name) w = let r = confidenceCall w name in reco
 station-callable (Ask Size name) w = let r = sizeCall w name in record { allowed = filz-read name w r (own r); asks = refl; words = refl }
 station-callable (WriteFirst buffer) w = filz-write-first-callable buffer w
 station-callable (ReadFirst file) w = filz-read-first-callable file w
+station-callable (IndexBuild cells) w =
+    let o = indexBuildCall w cells in
+    record { allowed = filz-index cells w o (over o (build-words w cells)); asks = refl; words = refl }
+station-callable (IndexEnter cells) w =
+    let o = indexEnterCall w cells in
+    record { allowed = filz-index cells w o (over o (enter-words w cells)); asks = refl; words = refl }
+station-callable (IndexFind cells name) w = filz-find-callable cells name w

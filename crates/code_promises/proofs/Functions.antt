@@ -1,4 +1,4 @@
--- The public functions: the ledger's ten and the C face's ten. Each by its own contract, which src/lib.rt passes on, and by what its
+-- The public functions: the ledger's ten, the index's three, and the C face's thirteen. Each by its own contract, which src/lib.rt passes on, and by what its
 -- parameters mean.
 use Prim.Native.Nat.{ℕ}
 use mathlib.Core.List.{List, []}
@@ -8,7 +8,7 @@ use borrow.Fn.Kinds.{In, Out}
 use Rattle.terms.specs.declared.answer.Reading.the-variants.{Query, Accepted, Lead, Confidence, Size}
 use Rattle.terms.specs.declared.answer.Answer.{Answer}
 use Rattle.terms.specs.Answers.{number, value}
-use Rattle.promises.specs.Run.{Call, Open, Book, Poll, Ask, WriteFirst, ReadFirst}
+use Rattle.promises.specs.Run.{Call, Open, Book, Poll, Ask, WriteFirst, ReadFirst, IndexBuild, IndexEnter, IndexFind}
 use Rattle.terms.specs.Setting.{settingOf}
 use Rattle.code_promises.specs.Contract.{contractOf, left}
 use Rattle.code_promises.specs.OfCode.{Done, Function}
@@ -25,6 +25,9 @@ pub data Name : Type 0 where
   by-size : Name
   by-write-first : Name
   by-read-first : Name
+  by-build : Name
+  by-enter : Name
+  by-find : Name
   by-filz-open : Name
   by-filz-book : Name
   by-filz-poll : Name
@@ -35,12 +38,15 @@ pub data Name : Type 0 where
   by-filz-size : Name
   by-filz-write-first : Name
   by-filz-read-first : Name
+  by-filz-index-build : Name
+  by-filz-index-enter : Name
+  by-filz-index-find : Name
 
--- a call that was lent a buffer besides the words, and left these bytes in it
-abbrev leaving : Done → (bytes : List ℕ) → Done
-leaving d bytes = record { call = d .call; before = d .before; number = d .number; value = d .value; after = d .after; lent = bytes }
+-- a call that was lent a buffer besides the words, and left these bytes or cells in it
+abbrev leaving : Done → (lent : List ℕ) → Done
+leaving d lent = record { call = d .call; before = d .before; number = d .number; value = d .value; after = d .after; lent = lent }
 
--- ---- the ledger's functions return an answer
+-- ---- the ledger's functions and the index's return an answer
 
 abbrev answered : Call → (before : List ℕ) → Answer → (after : List ℕ) → Done
 answered c before r after = record { call = c; before = before; number = number r; value = value r; after = after; lent = [] }
@@ -52,6 +58,15 @@ reading Asked Learnt call = record {
   done = λ m. answered (call (m .given .1 .0)) (now (m .given .0)) (m .returned) (now (left m .0));
 }
 
+-- a call about an index that changes it takes the words and the cells
+abbrev indexing : In 2 code.build.Kinds.ps → Out 2 code.build.Kinds.ps code.build.Kinds.r → (List ℕ → Call) → Function
+indexing Asked Learnt call = record {
+  contract = contractOf 2 code.build.Kinds.ps code.build.Kinds.r Asked Learnt;
+  done = λ m. leaving
+      (answered (call (now (m .given .1 .0))) (now (m .given .0)) (m .returned) (now (left m .0)))
+      (now (left m .1 .0));
+}
+
 -- ---- the C face's return a number, and write the value through their last pointer
 
 abbrev told : Call → (before : List ℕ) → ℕ → ℤ → (after : List ℕ) → Done
@@ -61,6 +76,14 @@ abbrev filz-reading : In 2 code.filz_query.Kinds.ps → Out 2 code.filz_query.Ki
 filz-reading Asked Learnt call = record {
   contract = contractOf 2 code.filz_query.Kinds.ps code.filz_query.Kinds.r Asked Learnt;
   done = λ m. told (call (m .given .1 .0)) (now (m .given .0)) (m .returned) (now (left m .1 .1 .0)) (now (left m .0));
+}
+
+abbrev filz-indexing : In 3 code.filz_index_build.Kinds.ps → Out 3 code.filz_index_build.Kinds.ps code.filz_index_build.Kinds.r → (List ℕ → Call) → Function
+filz-indexing Asked Learnt call = record {
+  contract = contractOf 3 code.filz_index_build.Kinds.ps code.filz_index_build.Kinds.r Asked Learnt;
+  done = λ m. leaving
+      (told (call (now (m .given .1 .0))) (now (m .given .0)) (m .returned) (now (left m .1 .1 .0)) (now (left m .0)))
+      (now (left m .1 .0));
 }
 
 -- ---- all of them
@@ -92,6 +115,12 @@ function by-write-first = record {
 function by-read-first = record {
   contract = contractOf 2 code.read_first.Kinds.ps code.read_first.Kinds.r code.read_first.Reads.Asked code.read_first.Reads.Learnt;
   done = λ m. answered (ReadFirst (now (m .given .1 .0))) (now (m .given .0)) (m .returned) (now (left m .0));
+}
+function by-build = indexing code.build.Reads.Asked code.build.Reads.Learnt IndexBuild
+function by-enter = indexing code.enter.Reads.Asked code.enter.Reads.Learnt IndexEnter
+function by-find = record {
+  contract = contractOf 2 code.find.Kinds.ps code.find.Kinds.r code.find.Reads.Asked code.find.Reads.Learnt;
+  done = λ m. answered (IndexFind (now (m .given .1 .0)) (m .given .1 .1 .0)) (now (m .given .0)) (m .returned) (now (left m .0));
 }
 function by-filz-open = record {
   contract = contractOf 2 code.filz_open.Kinds.ps code.filz_open.Kinds.r code.filz_open.Reads.Asked code.filz_open.Reads.Learnt;
@@ -126,6 +155,14 @@ function by-filz-read-first = record {
   contract = contractOf 3 code.filz_read_first.Kinds.ps code.filz_read_first.Kinds.r code.filz_read_first.Reads.Asked code.filz_read_first.Reads.Learnt;
   done = λ m. told (ReadFirst (now (m .given .1 .0))) (now (m .given .0)) (m .returned) (now (left m .1 .1 .0)) (now (left m .0));
 }
+function by-filz-index-build = filz-indexing code.filz_index_build.Reads.Asked code.filz_index_build.Reads.Learnt IndexBuild
+function by-filz-index-enter = filz-indexing code.filz_index_enter.Reads.Asked code.filz_index_enter.Reads.Learnt IndexEnter
+function by-filz-index-find = record {
+  contract = contractOf 3 code.filz_index_find.Kinds.ps code.filz_index_find.Kinds.r code.filz_index_find.Reads.Asked code.filz_index_find.Reads.Learnt;
+  done = λ m. told
+      (IndexFind (now (m .given .1 .0)) (m .given .1 .1 .0))
+      (now (m .given .0)) (m .returned) (now (left m .1 .1 .1 .0)) (now (left m .0));
+}
 
 -- ---- the function that each face has for a call
 
@@ -140,6 +177,9 @@ of-ledger (Ask Confidence name) = by-confidence
 of-ledger (Ask Size name) = by-size
 of-ledger (WriteFirst buffer) = by-write-first
 of-ledger (ReadFirst file) = by-read-first
+of-ledger (IndexBuild index) = by-build
+of-ledger (IndexEnter index) = by-enter
+of-ledger (IndexFind index name) = by-find
 
 abbrev pub of-station : Call → Name
 of-station (Open s) = by-filz-open
@@ -152,3 +192,6 @@ of-station (Ask Confidence name) = by-filz-confidence
 of-station (Ask Size name) = by-filz-size
 of-station (WriteFirst buffer) = by-filz-write-first
 of-station (ReadFirst file) = by-filz-read-first
+of-station (IndexBuild index) = by-filz-index-build
+of-station (IndexEnter index) = by-filz-index-enter
+of-station (IndexFind index name) = by-filz-index-find

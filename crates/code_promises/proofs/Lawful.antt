@@ -22,6 +22,9 @@ use Rattle.code_promises.proofs.Functions.{
   by-size,
   by-write-first,
   by-read-first,
+  by-build,
+  by-enter,
+  by-find,
   by-filz-open,
   by-filz-book,
   by-filz-poll,
@@ -32,6 +35,9 @@ use Rattle.code_promises.proofs.Functions.{
   by-filz-size,
   by-filz-write-first,
   by-filz-read-first,
+  by-filz-index-build,
+  by-filz-index-enter,
+  by-filz-index-find,
   function,
 }
 
@@ -46,7 +52,7 @@ record Lawful (f : Function) : Type 0 where
 over : {o : Handover} {n : ℕ} {v : ℤ} {w b : List ℕ} → HandedOver o n v w b → Handed (outcome (o .answer) (o .words)) n v w × (b ≡ o .lent)
 over h = (record { told = h .told; words = h .words }, h .lent)
 
--- ---- the ledger's functions
+-- ---- the ledger's functions, and the index's
 
 answers : {a : Answer} {w : List ℕ} {o : Outcome} → outcome a w ≡ o → Handed o (number a) (value a) w
 answers e = left-of e (record { numbered = refl; valued = refl })
@@ -95,6 +101,18 @@ read-first-lawful : Lawful (function by-read-first)
 unfolding outcomeOf lentAfter
 read-first-lawful = record { asks = λ at given. tt; gives = λ m. (answers (m .learnt), refl) }
 
+build-lawful : Lawful (function by-build)
+unfolding outcomeOf lentAfter
+build-lawful = record { asks = λ at given. tt; gives = λ m. over (handed-of (m .learnt) (record { numbered = refl; valued = refl })) }
+
+enter-lawful : Lawful (function by-enter)
+unfolding outcomeOf lentAfter
+enter-lawful = record { asks = λ at given. tt; gives = λ m. over (handed-of (m .learnt) (record { numbered = refl; valued = refl })) }
+
+find-lawful : Lawful (function by-find)
+unfolding outcomeOf lentAfter
+find-lawful = record { asks = λ at given. tt; gives = λ m. (reads (m .learnt), refl) }
+
 -- ---- the C face's functions
 
 filz-open-lawful : Lawful (function by-filz-open)
@@ -137,6 +155,18 @@ filz-read-first-lawful : Lawful (function by-filz-read-first)
 unfolding outcomeOf lentAfter
 filz-read-first-lawful = record { asks = λ at given. tt; gives = λ m. (m .learnt, refl) }
 
+filz-index-build-lawful : Lawful (function by-filz-index-build)
+unfolding outcomeOf lentAfter
+filz-index-build-lawful = record { asks = λ at given. tt; gives = λ m. over (m .learnt) }
+
+filz-index-enter-lawful : Lawful (function by-filz-index-enter)
+unfolding outcomeOf lentAfter
+filz-index-enter-lawful = record { asks = λ at given. tt; gives = λ m. over (m .learnt) }
+
+filz-index-find-lawful : Lawful (function by-filz-index-find)
+unfolding outcomeOf lentAfter
+filz-index-find-lawful = record { asks = λ at given. tt; gives = λ m. (record { told = m .learnt; words = refl }, refl) }
+
 -- ---- all of them
 
 lawful : (f : Name) → Lawful (function f)
@@ -150,6 +180,9 @@ lawful by-confidence = confidence-lawful
 lawful by-size = size-lawful
 lawful by-write-first = write-first-lawful
 lawful by-read-first = read-first-lawful
+lawful by-build = build-lawful
+lawful by-enter = enter-lawful
+lawful by-find = find-lawful
 lawful by-filz-open = filz-open-lawful
 lawful by-filz-book = filz-book-lawful
 lawful by-filz-poll = filz-poll-lawful
@@ -160,6 +193,9 @@ lawful by-filz-confidence = filz-confidence-lawful
 lawful by-filz-size = filz-size-lawful
 lawful by-filz-write-first = filz-write-first-lawful
 lawful by-filz-read-first = filz-read-first-lawful
+lawful by-filz-index-build = filz-index-build-lawful
+lawful by-filz-index-enter = filz-index-enter-lawful
+lawful by-filz-index-find = filz-index-find-lawful
 
 pub nothing-asked : NothingAsked function
 unfolding NothingAsked

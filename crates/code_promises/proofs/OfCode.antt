@@ -1,32 +1,35 @@
 -- What holds of the law's outcomes holds of every call that a contract allows, since it gives that outcome. Assumes nothing.
 use mathlib.Core.Path.{_≡_, refl, sym, ap, ap₂, subst, _∙_}
-use mathlib.Core.Bool.{Bool, true, false, true≢false, _&&_}
+use mathlib.Core.Bool.{Bool, true, false, _&&_}
 use mathlib.Core.List.{List, [], _∷_}
 use mathlib.Core.Logic.{_≢_}
 use Prim.Native.Nat.{ℕ}
 use lib.IntN.{pos}
-use Rattle.terms.specs.declared.answer.Answer.{Answer}
-use Rattle.terms.specs.declared.answer.Answer.the-variants.{Taken, Refused}
-use Rattle.terms.specs.Answers.{Outcome, number, value, isTaken}
+use Rattle.terms.specs.declared.answer.Answer.the-variants.{Taken}
+use Rattle.terms.specs.Answers.{Outcome, number, value, isTaken, done}
 use Rattle.rules.specs.Layout.{nameOf}
 use Rattle.rules.specs.Sound.{Ledger}
-use Rattle.rules.specs.Calls.{acceptedCall}
-use Rattle.rule_laws.proofs.Calls.{number-refused}
+use Rattle.rules.specs.Calls.{bookCall, acceptedCall}
+use Rattle.rule_laws.proofs.Calls.{zero-taken, taken-zero}
 use Rattle.day_file.specs.Bytes.{dayFile}
 use Rattle.day_file.specs.Calls.{writeFirstCall, readFirstCall}
-use Rattle.promises.specs.Run.{Call, Open, Book, Poll, Ask, WriteFirst, ReadFirst, outcomeOf, opens, lentAfter, History, fresh, historyAfter, run}
+use Rattle.name_index.specs.Index.{built}
+use Rattle.promises.specs.Run.{Call, Open, Book, Poll, Ask, WriteFirst, ReadFirst, IndexBuild, IndexEnter, IndexFind, outcomeOf, opens, lentAfter, History, fresh, historyAfter, run}
 use Rattle.promises.specs.Acceptance.{AcceptedOnce, AcceptedCallOnce, renews, NoneRenews, AcceptedCallStays}
 use Rattle.promises.specs.Damage.{NamesDamage}
 use Rattle.promises.specs.Refusals.{RefusedKeeps}
 use Rattle.promises.specs.DayFile.{Written, FileWritten}
 use Rattle.promises.specs.ReadFile.{FileOfRead}
+use Rattle.promises.specs.NameIndex.{BuiltFinds, FoundIsPlain, BuildMakes, EnteredIsBuilt, BuiltLasts}
 use Rattle.promises.specs.Soundness.{OpenedSound}
 use Rattle.promises.proofs.Acceptance.{accepted-once, accepted-call-once}
 use Rattle.promises.proofs.Marks.{accepted-call-stays}
+use Rattle.promises.proofs.Taken.{build-taken}
 use Rattle.promises.proofs.Refusals.{refused-keeps, refused-listed}
 use Rattle.promises.proofs.Damage.{damage-named}
 use Rattle.promises.proofs.DayFile.{file-written}
 use Rattle.promises.proofs.ReadFile.{file-of-read}
+use Rattle.promises.proofs.NameIndex.{built-finds, found-is-plain, build-makes, entered-is-built, bookings-kept, built-lasts}
 use Rattle.promises.proofs.Kept.{opened-sound}
 use Rattle.promises.proofs.Ranges.{ranges}
 use Rattle.promises.proofs.Run.{Right, made-right, step-right}
@@ -43,6 +46,10 @@ use Rattle.code_promises.specs.OfCode.{
   CodeNamesDamage,
   CodeWrites,
   CodeReads,
+  CodeFinds,
+  CodeEnters,
+  CodeLasts,
+  CodeNeverMisleads,
   Accepts,
   CodeAcceptsOnce,
   Followed,
@@ -93,6 +100,9 @@ listed (Poll name votes) w = refused-listed .polling w name votes
 listed (Ask what name) w = refused-listed .reading what w name
 listed (WriteFirst buffer) w = refused-listed .writing w buffer
 listed (ReadFirst file) w = refused-listed .readingFile w file
+listed (IndexBuild index) w = refused-listed .building w index
+listed (IndexEnter index) w = refused-listed .entering w index
+listed (IndexFind index name) w = refused-listed .finding w index name
 
 pub code-listed : CodeListed function
 unfolding CodeListed
@@ -116,14 +126,6 @@ code-names-damage d m =
     (subst (NamesDamage (d .before) (number (due d .answer))) (sym (told .valued)) (damage-named .calls (d .call) (d .before)))
 
 -- ---- the day file
-
-zero-taken : (r : Answer) → number r ≡ 0 → isTaken r ≡ true
-zero-taken (Taken v) e = refl
-zero-taken (Refused r) e = absurd (number-refused r e)
-
-taken-zero : (r : Answer) → isTaken r ≡ true → number r ≡ 0
-taken-zero (Taken v) e = refl
-taken-zero (Refused r) e = absurd (true≢false (sym e))
 
 pub code-writes : CodeWrites function
 unfolding CodeWrites FileWritten outcomeOf lentAfter
@@ -152,6 +154,56 @@ code-reads d file m asks taken =
       given .told .valued ∙ ap (λ o. value (o .answer)) law ∙ ranges .readingFile (d .before) file numbered,
     )
 
+-- ---- the name index
+
+-- a taken build leaves the built index
+built-by : (d : Done) (index : List ℕ) → Made function d → d .call ≡ IndexBuild index → d .number ≡ 0 → d .lent ≡ built (d .before)
+unfolding BuildMakes outcomeOf lentAfter
+built-by d index m asks taken =
+    let law = due-is d asks refl in
+    let numbered = ap (λ o. number (o .answer)) (sym law) ∙ sym (gave d m .told .numbered) ∙ taken in
+    gave-lent d m ∙ ap (λ c. lentAfter c (d .before)) asks ∙ ap (λ o. o .lent) (build-makes (d .before) index numbered)
+
+-- and its words are a ledger
+build-ledger : (d : Done) (index : List ℕ) → Made function d → d .call ≡ IndexBuild index → d .number ≡ 0 → Ledger (d .before)
+unfolding outcomeOf
+build-ledger d index m asks taken =
+    let numbered = ap (λ o. number (o .answer)) (sym (due-is d asks refl)) ∙ sym (gave d m .told .numbered) ∙ taken in
+    build-taken (d .before) index numbered .0
+
+pub code-finds : CodeFinds function
+unfolding CodeFinds BuiltFinds outcomeOf
+code-finds d e index name m asks taken n finds words =
+    let law = ap (λ (o : Outcome). o .answer) (due-is e (finds ∙ ap (λ i. IndexFind i name) (built-by d index m asks taken)) words) in
+    let plain = law ∙ built-finds (d .before) name in
+    (gave e n .told .numbered ∙ ap number plain, gave e n .told .valued ∙ ap value plain)
+
+pub code-enters : CodeEnters function
+unfolding CodeEnters EnteredIsBuilt outcomeOf lentAfter
+code-enters d b e a index other parents name slot m asks taken n books same booked k enters words o builds again anew =
+    let law = due-is b books same in
+    let numbered = ap (λ x. number (x .answer)) (sym law) ∙ sym (gave b n .told .numbered) ∙ booked in
+    let v = bookCall (d .before) name slot parents .words in
+    let after : b .after ≡ v = gave b n .words ∙ ap (λ x. x .words) law in
+    let entered = entered-is-built (d .before) name slot parents numbered in
+    let asked : e .call ≡ IndexEnter (built (d .before)) = enters ∙ ap IndexEnter (built-by d index m asks taken) in
+    let here : e .before ≡ v = words ∙ after in
+    let law = due-is e asked here in
+    let answer : due e .answer ≡ done = ap (λ (x : Outcome). x .answer) law ∙ ap (λ x. x .answer) entered in (
+      gave e k .told .numbered ∙ ap number answer,
+      gave e k .told .valued ∙ ap value answer,
+      gave e k .words ∙ ap (λ x. x .words) law ∙ ap (λ x. x .words) entered ∙ sym here,
+      gave-lent e k ∙ ap₂ lentAfter asked here ∙ ap (λ x. x .lent) entered ∙ ap built (sym (again ∙ after)) ∙ sym (built-by a other o builds anew),
+    )
+
+pub code-never-misleads : CodeNeverMisleads function
+unfolding CodeNeverMisleads FoundIsPlain outcomeOf
+code-never-misleads e index name m asks taken =
+    let law = ap (λ (o : Outcome). o .answer) (due-is e asks refl) in
+    let numbered = ap number (sym law) ∙ sym (gave e m .told .numbered) ∙ taken in
+    let plain = found-is-plain (e .before) index name numbered in
+    (ap number (sym plain) ∙ numbered, gave e m .told .valued ∙ ap value (law ∙ plain))
+
 -- ---- demands 2 and 3
 
 -- an answer of 1 is the law's answer
@@ -176,6 +228,17 @@ renewed d m refused = go (opens (d .call)) (isTaken (due d .answer)) refl refl
     go true true o t = absurd (refused o (gave d m .told .numbered ∙ taken-zero (due d .answer) t))
     go true false o t = refl
     go false t o e = refl
+
+pub code-lasts : CodeLasts function
+unfolding CodeLasts BuiltLasts
+code-lasts d c a index other m asks taken n same kept refused o builds after anew =
+    let before : List ℕ = c .before in
+    let ledger : Ledger before = subst Ledger (sym same) (build-ledger d index m asks taken) in
+    let new = renewed c n refused in
+    built-by a other o builds anew
+    ∙ ap built (after ∙ gave c n .words)
+    ∙ built-lasts (c .call) before new ledger (bookings-kept (c .call) before new kept)
+    ∙ ap built same ∙ sym (built-by d index m asks taken)
 
 followed-one : {w u : List ℕ} (name : ℕ) → acceptedCall w name ≡ Taken (pos 1) → Followed function w u → acceptedCall u name ≡ Taken (pos 1)
 unfolding AcceptedCallStays NoneRenews run

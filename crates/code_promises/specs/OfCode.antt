@@ -1,6 +1,6 @@
 -- The promises said of the code: they follow from what the contracts of the public functions allow, and from nothing else.
 use mathlib.Core.Path.{_≡_}
-use mathlib.Core.Bool.{true}
+use mathlib.Core.Bool.{true, false}
 use mathlib.Core.List.{List}
 use mathlib.Core.Logic.{_≢_}
 use Prim.Native.Nat.{ℕ, _<_, _≤_}
@@ -13,16 +13,17 @@ use Rattle.rules.specs.Layout.{bookings, polls, slotOf, nameOf, confidenceOf, p
 use Rattle.rules.specs.Readings.{acceptedOf}
 use Rattle.rules.specs.Sound.{Ledger}
 use Rattle.day_file.specs.Bytes.{dayFile}
-use Rattle.promises.specs.Run.{Call, Open, Book, Poll, Ask, WriteFirst, ReadFirst, outcomeOf, opens, lentBy, lentAfter, History, fresh, historyAfter}
-use Rattle.promises.specs.Refusals.{OpenListed, BookListed, PollListed, ReadingListed, WriteFileListed, ReadFileListed}
+use Rattle.promises.specs.Run.{Call, Open, Book, Poll, Ask, WriteFirst, ReadFirst, IndexBuild, IndexEnter, IndexFind, outcomeOf, opens, lentBy, lentAfter, History, fresh, historyAfter}
+use Rattle.promises.specs.Refusals.{OpenListed, BookListed, PollListed, ReadingListed, WriteFileListed, ReadFileListed, BuildListed, EnterListed, FindListed}
 use Rattle.promises.specs.Damage.{NamesDamage}
 use Rattle.promises.specs.DayFile.{Written}
+use Rattle.promises.specs.NameIndex.{plainSearch, adds}
 use Rattle.promises.specs.Confidence.{Counted, sizes}
 use Rattle.station.specs.Returned.{Handed}
 use Rattle.code_promises.specs.Contract.{Contract, Unasked, Allowed}
 
--- all that a caller sees of a call: the words before it, the number and the value that it gave, the words after it, and the bytes after it in
--- the buffer lent besides. What stood in that buffer is in the call, and a call that is lent none to write into leaves no bytes
+-- all that a caller sees of a call: the words before it, the number and the value that it gave, the words after it, and the bytes or cells after it in
+-- the buffer lent besides. What stood in that buffer is in the call, and a call that is lent none to write into leaves none
 pub record Done : Type 0 where
   pub call : Call
   pub before : List ℕ
@@ -48,6 +49,9 @@ ListedFirst (Poll name votes) w = PollListed w name votes
 ListedFirst (Ask what name) w = ReadingListed w name
 ListedFirst (WriteFirst buffer) w = WriteFileListed w buffer
 ListedFirst (ReadFirst file) w = ReadFileListed w file
+ListedFirst (IndexBuild index) w = BuildListed w index
+ListedFirst (IndexEnter index) w = EnterListed w index
+ListedFirst (IndexFind index name) w = FindListed w index name
 
 -- demands 2 and 3 of words with their history
 pub record Kept (w : List ℕ) (h : History) : Type 0 where
@@ -81,7 +85,7 @@ module _ {Name : Type 0} (function : Name → Function) where
   unfoldable pub CodeCallable : (face : Call → Name) → Type 0
   CodeCallable face = (c : Call) (w : List ℕ) → Makes (face c) c w
 
-  -- each call gives what the law says: number, value, words and bytes
+  -- each call gives what the law says: number, value, words, and bytes or cells
   unfoldable pub CodeLawful : Type 0
   CodeLawful =
       (d : Done) → Made d
@@ -97,7 +101,7 @@ module _ {Name : Type 0} (function : Name → Function) where
   unfoldable pub CodeListed : Type 0
   CodeListed = (d : Done) → Made d → ListedFirst (d .call) (d .before) (d .number)
 
-  -- a refused call has changed no word and no byte, and its value is 0 unless its number is 14 or 15
+  -- a refused call has changed no word, no byte and no cell, and its value is 0 unless its number is 14 or 15
   unfoldable pub CodeRefuses : Type 0
   CodeRefuses =
       (d : Done) → Made d → d .number ≢ 0 → (d .after ≡ d .before) × (d .number ≢ 14 → d .number ≢ 15 → d .value ≡ pos 0)
@@ -118,6 +122,38 @@ module _ {Name : Type 0} (function : Name → Function) where
   CodeReads =
       (d : Done) (file : List ℕ) → Made d → d .call ≡ ReadFirst file → d .number ≡ 0
       → Ledger (d .after) × (dayFile (d .after) ≡ file) × (d .value ≡ pos 0)
+
+  -- by the index that a taken build left, a lookup on the same words gives what the plain search gives
+  unfoldable pub CodeFinds : Type 0
+  CodeFinds =
+      (d e : Done) (index : List ℕ) (name : ℕ) → Made d → d .call ≡ IndexBuild index → d .number ≡ 0
+      → Made e → e .call ≡ IndexFind (d .lent) name → e .before ≡ d .before
+      → (e .number ≡ number (plainSearch (d .before) name)) × (e .value ≡ value (plainSearch (d .before) name))
+
+  -- entering after a taken booking leaves the index that a taken build leaves then, if it was one that a taken build left before
+  unfoldable pub CodeEnters : Type 0
+  CodeEnters =
+      (d b e a : Done) (index other parents : List ℕ) (name slot : ℕ)
+      → Made d → d .call ≡ IndexBuild index → d .number ≡ 0
+      → Made b → b .call ≡ Book name slot parents → b .before ≡ d .before → b .number ≡ 0
+      → Made e → e .call ≡ IndexEnter (d .lent) → e .before ≡ b .after
+      → Made a → a .call ≡ IndexBuild other → a .before ≡ b .after → a .number ≡ 0
+      → (e .number ≡ 0) × (e .value ≡ pos 0) × (e .after ≡ e .before) × (e .lent ≡ a .lent)
+
+  -- any call but a taken booking, opening or reading leaves the index that a taken build left as good as one that is built after it
+  unfoldable pub CodeLasts : Type 0
+  CodeLasts =
+      (d c a : Done) (index other : List ℕ)
+      → Made d → d .call ≡ IndexBuild index → d .number ≡ 0
+      → Made c → c .before ≡ d .before → adds (c .call) (c .before) ≡ false → (opens (c .call) ≡ true → c .number ≢ 0)
+      → Made a → a .call ≡ IndexBuild other → a .before ≡ c .after → a .number ≡ 0
+      → a .lent ≡ d .lent
+
+  -- by any index a lookup that is taken gives what the plain search gives
+  unfoldable pub CodeNeverMisleads : Type 0
+  CodeNeverMisleads =
+      (e : Done) (index : List ℕ) (name : ℕ) → Made e → e .call ≡ IndexFind index name → e .number ≡ 0
+      → (number (plainSearch (e .before) name) ≡ 0) × (e .value ≡ value (plainSearch (e .before) name))
 
   -- a taken answer of 1 to the question whether booking i of the words w is accepted
   pub record Accepts (w : List ℕ) (i : ℕ) : Type 0 where

@@ -15,7 +15,7 @@ use Rattle.loops.proofs.Search.{→all, first-le, first-hit, first-before}
 use Rattle.terms.specs.declared.setting.Setting.{Setting}
 use Rattle.terms.specs.declared.answer.Found.{Found}
 use Rattle.terms.specs.declared.answer.Found.the-variants.{At, Absent}
-use Rattle.terms.specs.declared.answer.Refusal.the-variants.{WrongLength, DamagedHeader, DamagedRecord, DamagedSlot}
+use Rattle.terms.specs.declared.answer.Refusal.the-variants.{WrongLength, DamagedHeader, DamagedRecord, DamagedSlot, WrongIndex}
 use Rattle.terms.specs.declared.answer.Answer.{Answer}
 use Rattle.terms.specs.declared.answer.Answer.the-variants.{Refused}
 use Rattle.terms.specs.Answers.{number, value, done}
@@ -27,16 +27,18 @@ use Rattle.rules.specs.Book.{lookUp, numberOf, booked}
 use Rattle.rules.specs.Poll.{polled}
 use Rattle.rules.specs.Readings.{readingOf}
 use Rattle.rules.specs.Listing.{listCall}
-use Rattle.rules.specs.Calls.{openAnswer, openCall, testOf, tested, bookAnswer, bookCall, askedOf, pollAnswer, pollCall, readingCall}
+use Rattle.rules.specs.Calls.{openAnswer, openCall, damageOf, testOf, besideOf, unlessStopped, tested, bookAnswer, bookCall, askedOf, pollAnswer, pollCall, readingCall}
 use Rattle.day_file.specs.Bytes.{dayFile}
 use Rattle.day_file.specs.Decode.{decode}
 use Rattle.day_file.specs.Replay.{replay, goodFile}
 use Rattle.day_file.specs.Calls.{laid, writeFirstAnswer, writeFirstCall, readFirstAnswer, readFirstCall}
+use Rattle.name_index.specs.Index.{lookUpIn, newest, withNumber, built}
+use Rattle.name_index.specs.Calls.{isWrongIndex, indexTested, enterAnswer, indexBuildCall, indexEnterCall, indexFindCall}
 use Rattle.rule_laws.proofs.Sound.{tests→Sound, header-kept, record-kept, slot-kept}
 use Rattle.rule_laws.proofs.RowRules.{Rules→headerGood, recordRow→Rules, Rules→recordRow, slotGood→Rules, Rules→slotGood}
 use Rattle.rule_laws.proofs.Calls.{leaves-answer, handsOver-answer}
-use Rattle.rule_laws.proofs.Tested.{tested-in-order}
-use Rattle.promises.specs.Run.{Call, Open, Book, Poll, Ask, WriteFirst, ReadFirst, outcomeOf}
+use Rattle.rule_laws.proofs.Tested.{tested-in-order, beside-in-order, beside-right}
+use Rattle.promises.specs.Run.{Call, Open, Book, Poll, Ask, WriteFirst, ReadFirst, IndexBuild, IndexEnter, IndexFind, outcomeOf}
 use Rattle.promises.specs.Damage.{SoundByRows, Lowest, NamesDamage, DamageNamed}
 
 pub sound-by-rows : SoundByRows
@@ -150,6 +152,29 @@ read-names w file =
     rw (leaves-answer (readFirstAnswer goodFile w file) w (replay (decode file) .words))
     (other-names w (readFirstAnswer goodFile w file) (simp (other-cond, both-true)))
 
+-- what begins with the test of words and index
+index-names : (w index : List ℕ) (rest : Answer) → isOther rest ≡ true
+    → NamesDamage w (number (indexTested damageOf w index rest)) (value (indexTested damageOf w index rest))
+unfolding besideOf
+index-names w index rest other = go (isWrongIndex index)
+  where
+    go : (isWrong : Bool) → let a = unlessStopped (besideOf isWrong WrongIndex w) rest in NamesDamage w (number a) (value a)
+    go true = rw (beside-in-order true WrongIndex w rest) (other-names w (cond (not (eqb (length w) size)) (Refused WrongLength) (Refused WrongIndex)) (simp (other-cond, both-true)))
+    go false = rw (beside-right WrongIndex w) (tested-names w rest other)
+
+build-names : (w index : List ℕ) → NamesDamage w (number (indexBuildCall w index .answer)) (value (indexBuildCall w index .answer))
+unfolding indexBuildCall
+build-names w index = rw (handsOver-answer (indexTested damageOf w index done) w index (built w)) (index-names w index done refl)
+
+enter-names : (w index : List ℕ) → NamesDamage w (number (indexEnterCall w index .answer)) (value (indexEnterCall w index .answer))
+unfolding indexEnterCall
+enter-names w index =
+    rw (handsOver-answer (enterAnswer damageOf w index) w index (withNumber w (newest w) index)) (index-names w index _ (simp (other-cond, both-true)))
+
+find-names : (w index : List ℕ) (name : ℕ) → NamesDamage w (number (indexFindCall w index name)) (value (indexFindCall w index name))
+unfolding indexFindCall
+find-names w index name = index-names w index _ (other-asked (lookUpIn w index name) _ (λ i. refl))
+
 calls-name : (c : Call) (w : List ℕ) → NamesDamage w (number (outcomeOf c w .answer)) (value (outcomeOf c w .answer))
 unfolding outcomeOf
 calls-name (Open s) w = open-names w s
@@ -158,6 +183,9 @@ calls-name (Poll name votes) w = poll-names w name votes
 calls-name (Ask what name) w = reading-names (readingOf what w) w name
 calls-name (WriteFirst buffer) w = write-names w buffer
 calls-name (ReadFirst file) w = read-names w file
+calls-name (IndexBuild index) w = build-names w index
+calls-name (IndexEnter index) w = enter-names w index
+calls-name (IndexFind index name) w = find-names w index name
 
 list-names : (w : List ℕ) → NamesDamage w (number (listCall w)) (value (listCall w))
 unfolding listCall

@@ -10,11 +10,11 @@ use Rattle.rules.specs.Calls.{openCall, bookCall, pollCall}
 use Rattle.rules.specs.Sound.{Ledger}
 use Rattle.rule_laws.proofs.Opened.{opened-ledger}
 use Rattle.day_file.specs.Calls.{readFirstCall}
-use Rattle.promises.specs.Run.{Call, Open, Book, Poll, Ask, WriteFirst, ReadFirst, outcomeOf, opens}
+use Rattle.promises.specs.Run.{Call, Open, Book, Poll, Ask, WriteFirst, ReadFirst, IndexBuild, IndexEnter, IndexFind, outcomeOf, opens}
 use Rattle.promises.specs.Acceptance.{renews}
 use Rattle.promises.specs.Soundness.{OpenedSound, SoundKept}
 use Rattle.promises.specs.Lasting.{Grown, BookingsLast, AncestryLasts}
-use Rattle.promises.proofs.Taken.{open-taken, open-kept, book-taken, book-kept, poll-taken, poll-kept, write-words, read-taken, read-kept}
+use Rattle.promises.proofs.Taken.{open-taken, open-kept, book-taken, book-kept, poll-taken, poll-kept, write-words, read-taken, read-kept, build-words, enter-words}
 use Rattle.promises.proofs.Booked.{booked-ledger, booked-grown}
 use Rattle.promises.proofs.Polled.{polled-ledger, polled-grown}
 use Rattle.promises.proofs.Good.{file-ledger}
@@ -55,6 +55,9 @@ call-kept (Poll name votes) w n l = kept-poll w name votes (isTaken (pollCall w 
 call-kept (Ask what name) w n l = kept-self w l
 call-kept (WriteFirst buffer) w n l = kept-words (write-words w buffer) (kept-self w l)
 call-kept (ReadFirst file) w n l = kept-words (read-kept w file n) (kept-self w l)
+call-kept (IndexBuild index) w n l = kept-words (build-words w index) (kept-self w l)
+call-kept (IndexEnter index) w n l = kept-words (enter-words w index) (kept-self w l)
+call-kept (IndexFind index name) w n l = kept-self w l
 
 -- ---- the promises
 
@@ -65,6 +68,9 @@ opened-sound (Book name slot parents) w n t = absurd (true≢false (sym n))
 opened-sound (Poll name votes) w n t = absurd (true≢false (sym n))
 opened-sound (Ask what name) w n t = absurd (true≢false (sym n))
 opened-sound (WriteFirst buffer) w n t = absurd (true≢false (sym n))
+opened-sound (IndexBuild index) w n t = absurd (true≢false (sym n))
+opened-sound (IndexEnter index) w n t = absurd (true≢false (sym n))
+opened-sound (IndexFind index name) w n t = absurd (true≢false (sym n))
 opened-sound (ReadFirst file) w n t = let o = read-taken w file t in subst Ledger (sym (o .2)) (file-ledger file (o .1))
 
 -- taken or refused
@@ -86,6 +92,9 @@ sound-kept (Poll name votes) w l = call-kept (Poll name votes) w refl l .ledger
 sound-kept (Ask what name) w l = l
 sound-kept (WriteFirst buffer) w l = call-kept (WriteFirst buffer) w refl l .ledger
 sound-kept (ReadFirst file) w l = read-sound w file (isTaken (readFirstCall w file .answer)) refl l
+sound-kept (IndexBuild index) w l = call-kept (IndexBuild index) w refl l .ledger
+sound-kept (IndexEnter index) w l = call-kept (IndexEnter index) w refl l .ledger
+sound-kept (IndexFind index name) w l = l
 
 -- nor does one that neither opens nor reads
 kept-ledger : (c : Call) (w : List ℕ) → opens c ≡ false → Ledger w → Continues w (outcomeOf c w .words)

@@ -30,4 +30,5 @@ pub mod DayGood
 pub mod Replayed
 pub mod ReplayRun
 pub mod ReadFile
+pub mod NameIndex
 pub mod Refusals

@@ -24,9 +24,9 @@ use Rattle.rule_laws.proofs.Lookup.{found-below, found-name, found-is}
 use Rattle.rule_laws.proofs.Slots.{booking-lt}
 use Rattle.rule_laws.proofs.Tested.{reading-found}
 use Rattle.rule_laws.proofs.MarkedEarned.{mark-stays, marked→Earned, Earned→marked}
-use Rattle.promises.specs.Run.{Call, Open, Book, Poll, Ask, WriteFirst, ReadFirst, outcomeOf, step, run}
+use Rattle.promises.specs.Run.{Call, Open, Book, Poll, Ask, WriteFirst, ReadFirst, IndexBuild, IndexEnter, IndexFind, outcomeOf, step, run}
 use Rattle.promises.specs.Acceptance.{renews, AcceptedStays, NoneRenews, AcceptedCallStays, MarkEarned, EarnedMarked, OnlyPollsMark}
-use Rattle.promises.proofs.Taken.{Pollable, open-kept, book-taken, book-kept, poll-taken, poll-kept, write-words, read-kept, reading-taken}
+use Rattle.promises.proofs.Taken.{Pollable, open-kept, book-taken, book-kept, poll-taken, poll-kept, write-words, read-kept, build-words, enter-words, reading-taken}
 use Rattle.promises.proofs.BookedRecords.{markOf-booked}
 use Rattle.promises.proofs.Polled.{bookings-concluded, concluded-mark, concluded-ledger}
 use Rattle.promises.proofs.Kept.{call-kept}
@@ -96,6 +96,9 @@ only-polls-mark (Poll name votes) w p n i u = absurd (true≢false p)
 only-polls-mark (Ask what name) w p n i u = refl
 only-polls-mark (WriteFirst buffer) w p n i u = ap (λ v. markOf v i) (write-words w buffer)
 only-polls-mark (ReadFirst file) w p n i u = ap (λ v. markOf v i) (read-kept w file n)
+only-polls-mark (IndexBuild index) w p n i u = ap (λ v. markOf v i) (build-words w index)
+only-polls-mark (IndexEnter index) w p n i u = ap (λ v. markOf v i) (enter-words w index)
+only-polls-mark (IndexFind index name) w p n i u = refl
 
 -- ---- an acceptance stays
 
@@ -112,6 +115,9 @@ mark-kept (Poll name votes) w n l i u m = polling-stays w name votes (isTaken (p
 mark-kept (Ask what name) w n l i u m = m
 mark-kept (WriteFirst buffer) w n l i u m = only-polls-mark (WriteFirst buffer) w refl n i (booking-lt w (l .sound) i u) ∙ m
 mark-kept (ReadFirst file) w n l i u m = only-polls-mark (ReadFirst file) w refl n i (booking-lt w (l .sound) i u) ∙ m
+mark-kept (IndexBuild index) w n l i u m = only-polls-mark (IndexBuild index) w refl n i (booking-lt w (l .sound) i u) ∙ m
+mark-kept (IndexEnter index) w n l i u m = only-polls-mark (IndexEnter index) w refl n i (booking-lt w (l .sound) i u) ∙ m
+mark-kept (IndexFind index name) w n l i u m = m
 
 pub accepted-stays : AcceptedStays
 unfolding AcceptedStays

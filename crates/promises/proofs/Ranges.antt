@@ -1,6 +1,6 @@
 -- Every number answered lies in its range: a refused call has value 0 or a row, and a taken reading is that of a booking of a sound workspace.
 -- Rests on the bounds of the readings. Assumes nothing.
-use mathlib.Core.Path.{_≡_, refl, subst}
+use mathlib.Core.Path.{_≡_, refl, ap, subst}
 use mathlib.Core.List.{List}
 use mathlib.Core.Logic.{_≢_}
 use Prim.Native.Nat.{ℕ, _<_, _≤_}
@@ -22,13 +22,14 @@ use Rattle.rule_laws.proofs.Lookup.{found-below}
 use Rattle.rule_laws.proofs.Readings.{query-le, accepted-le, confidence-le, lead-le, size-least, size-most}
 use Rattle.day_file.specs.Bytes.{dayFile}
 use Rattle.day_file.proofs.Lengths.{dayFile-least, dayFile-most}
+use Rattle.name_index.proofs.Probing.{found-of}
 use Rattle.promises.specs.Run.{outcomeOf}
 use Rattle.promises.specs.Damage.{NamesDamage}
 use Rattle.promises.specs.Ranges.{Between, Ranges}
 use Rattle.promises.proofs.Damage.{damage-named}
-use Rattle.promises.proofs.Taken.{reading-taken, write-taken, read-value}
+use Rattle.promises.proofs.Taken.{reading-taken, write-taken, read-value, build-taken, enter-taken, find-taken}
 
-number-le : (a : Answer) → number a ≤ 17
+number-le : (a : Answer) → number a ≤ 27
 number-le (Taken v) = omega arith
 number-le (Refused r) = refusalNumber-within r .1
 
@@ -91,4 +92,10 @@ ranges = record {
       let file = write-taken w buffer taken in
       rw (file .1) (between _ _ (length (dayFile w)) (omega (arith, dayFile-least w (file .0))) (omega (arith, dayFile-most w (file .0))));
   readingFile = read-value;
+  building = λ w index taken. ap (λ o. value (o .answer)) (build-taken w index taken .2);
+  entering = λ w index taken. ap (λ o. value (o .answer)) (enter-taken w index taken .3);
+  finding = λ w index name taken.
+      let found = find-taken w index name taken in
+      let of = found-of w index name (found .0) (found .2) (found .3) in
+      rw (found .4) (between _ _ (found .0) (omega arith) (omega (arith, of .0, found .1 .sound .bookingsMost)));
 }

@@ -39,7 +39,10 @@ use Rattle.day_file.specs.Calls.{laid, writeFirstAnswer, writeFirstCall, readFi
 use Rattle.rules.specs.Calls.{
   openAnswer,
   openCall,
+  damageOf,
   testOf,
+  besideOf,
+  unlessStopped,
   tested,
   bookAnswer,
   bookCall,
@@ -49,15 +52,19 @@ use Rattle.rules.specs.Calls.{
   readingCall,
   readCall,
 }
+use Rattle.name_index.specs.Index.{cells, lookUpIn, isFull, newest, withNumber, built}
+use Rattle.name_index.specs.AsRead.{NameMet, NoneEmpty}
+use Rattle.name_index.specs.Calls.{isWrongIndex, indexTested, enterAnswer, indexBuildCall, indexEnterCall, indexFindCall}
+use Rattle.name_index.proofs.Probing.{full→none, none→full, At-absent, met-found, found-met}
 use Rattle.rule_laws.proofs.Calls.{leaves-answer, handsOver-answer, value-refused, open-refused, book-refused, poll-refused}
 use Rattle.rule_laws.proofs.Good.{isGood→Good, Good→isGood}
 use Rattle.rule_laws.proofs.RowRules.{headerGood→Rules, Rules→headerGood, recordRow→Rules, Rules→recordRow, slotGood→Rules, Rules→slotGood}
 use Rattle.rule_laws.proofs.Sound.{tests→Sound}
-use Rattle.rule_laws.proofs.Tested.{tested-in-order}
+use Rattle.rule_laws.proofs.Tested.{damaged-in-order, tested-first-length, beside-in-order}
 use Rattle.rule_laws.proofs.Lookup.{found-below, found-name, absent-name, found-is}
-use Rattle.promises.specs.Run.{Open, Book, Poll, Ask, WriteFirst, ReadFirst, outcomeOf, lentAfter}
+use Rattle.promises.specs.Run.{Open, Book, Poll, Ask, WriteFirst, ReadFirst, IndexBuild, IndexEnter, IndexFind, outcomeOf, lentAfter}
 use Rattle.promises.specs.Damage.{Broken}
-use Rattle.promises.proofs.Taken.{write-words, write-refused, read-refused}
+use Rattle.promises.proofs.Taken.{write-words, write-refused, read-refused, build-words, build-refused, enter-words, enter-refused}
 use Rattle.promises.specs.ReadFile.{Writable, GoodIsWritten}
 use Rattle.promises.proofs.ReadFile.{good-is-written}
 use Rattle.promises.specs.Refusals.{
@@ -69,12 +76,17 @@ use Rattle.promises.specs.Refusals.{
   BadVote,
   refuses,
   OpenListed,
+  damagedListed,
   testedListed,
+  indexListed,
   BookListed,
   PollListed,
   ReadingListed,
   WriteFileListed,
   ReadFileListed,
+  BuildListed,
+  EnterListed,
+  FindListed,
   ListListed,
   RefusedListed,
 }
@@ -89,6 +101,9 @@ refused-keeps (Poll name votes) w h = let kept = poll-refused w name votes h in 
 refused-keeps (Ask what name) w h = (refl, value-refused (readCall what w name) h, refl)
 refused-keeps (WriteFirst buffer) w h = (write-words w buffer, value-refused (writeFirstCall w buffer .answer) h, write-refused w buffer h)
 refused-keeps (ReadFirst file) w h = let kept = read-refused w file h in (kept .words, kept .value, refl)
+refused-keeps (IndexBuild index) w h = (build-words w index, value-refused (indexBuildCall w index .answer) h, build-refused w index h)
+refused-keeps (IndexEnter index) w h = (enter-words w index, value-refused (indexEnterCall w index .answer) h, enter-refused w index h)
+refused-keeps (IndexFind index name) w h = (refl, value-refused (indexFindCall w index name) h, refl)
 
 -- ---- a test that tells whether a case applies
 
@@ -237,16 +252,30 @@ module _ {n : ℕ} {later : Type 0} where
   asked-first (At i) rest e tells onward = inr (λ d. d (tells .passes refl), onward i refl e)
   asked-first Absent rest e tells onward = inl (tells .fails refl, e)
 
--- 1, 2, 14 and 15, and what follows them knows that the workspace is sound
-tested-first : {n : ℕ} {later : Type 0} (w : List ℕ) (rest : Answer) → n ≡ number (tested testOf w rest) → (Sound w → n ≡ number rest → later)
-    → testedListed w (λ k. later) n
-unfolding badRecord badSlot
-tested-first w rest e onward =
-    refused-first Refusal.WrongLength _ _ (e ∙ ap number (tested-in-order w rest)) (differs-decides (length w) size) (λ t e.
-    refused-first Refusal.DamagedHeader _ _ e (header-decides w) (λ header e.
-    refused-first (Refusal.DamagedRecord (badRecord w)) _ _ e (records-decide w) (λ records e.
-    refused-first (Refusal.DamagedSlot (badSlot w)) _ _ e (slots-decide w) (λ entries.
-    onward (tests→Sound w (not-false (headerGood w) header) (not-false (all (recordRow w) recordRows) records) (not-false (all (slotGood w) slots) entries))))))
+module _ {n : ℕ} {later : Type 0} (w : List ℕ) (rest : Answer) where
+  -- 2, 14 and 15, and what follows them knows that the workspace is sound
+  damaged-first : n ≡ number (unlessStopped (damageOf w) rest) → (Sound w → n ≡ number rest → later) → damagedListed w (λ k. later) n
+  unfolding badRecord badSlot
+  damaged-first e onward =
+      refused-first Refusal.DamagedHeader _ _ (e ∙ ap number (damaged-in-order w rest)) (header-decides w) (λ header e.
+      refused-first (Refusal.DamagedRecord (badRecord w)) _ _ e (records-decide w) (λ records e.
+      refused-first (Refusal.DamagedSlot (badSlot w)) _ _ e (slots-decide w) (λ entries.
+      onward (tests→Sound w (not-false (headerGood w) header) (not-false (all (recordRow w) recordRows) records) (not-false (all (slotGood w) slots) entries)))))
+
+  -- 1 before them
+  tested-first : n ≡ number (tested testOf w rest) → (Sound w → n ≡ number rest → later) → testedListed w (λ k. later) n
+  tested-first e onward =
+      refused-first Refusal.WrongLength _ _ (e ∙ ap number (tested-first-length w rest)) (differs-decides (length w) size) (λ t e.
+      damaged-first e onward)
+
+  -- and 18 between, so that what follows knows the length of the index too
+  index-first : (index : List ℕ) → n ≡ number (indexTested damageOf w index rest) → (Sound w → length index ≡ cells → n ≡ number rest → later)
+      → indexListed w index (λ k. later) n
+  unfolding besideOf
+  index-first index e onward =
+      refused-first Refusal.WrongLength _ _ (e ∙ ap number (beside-in-order (isWrongIndex index) Refusal.WrongIndex w rest)) (differs-decides (length w) size) (λ t e.
+      refused-first Refusal.WrongIndex _ _ e (differs-decides (length index) cells) (λ fits e.
+      damaged-first e (λ sound. onward sound (eqb-true (length index) cells (not-false _ fits)))))
 
 -- ---- the lists
 
@@ -305,6 +334,38 @@ read-listed w file =
     refused-first Refusal.BadFile _ _ e (unwritten-decides file) (λ t e.
     e))
 
+build-listed : (w index : List ℕ) → BuildListed w index (number (indexBuildCall w index .answer))
+unfolding indexBuildCall
+build-listed w index =
+    index-first w _ index (ap number (handsOver-answer (indexTested damageOf w index done) w index (built w))) (λ sound whole e.
+    e)
+
+-- 27
+full-decides : (index : List ℕ) → Decides (isFull index) (NoneEmpty index)
+full-decides index = decides-by (full→none index) (none→full index)
+
+enter-listed : (w index : List ℕ) → EnterListed w index (number (indexEnterCall w index .answer))
+unfolding indexEnterCall
+enter-listed w index =
+    index-first w _ index (ap number (handsOver-answer (enterAnswer damageOf w index) w index (withNumber w (newest w) index))) (λ sound whole e.
+    refused-first Refusal.IndexFull _ _ e (full-decides index) (λ t e.
+    e))
+
+-- 10, by an index
+met-decides : (w index : List ℕ) (name : ℕ) → Sound w → length index ≡ cells → Decides (isFound (lookUpIn w index name)) (NameMet w index name)
+met-decides w index name sound whole = go (lookUpIn w index name) refl
+  where
+    go : (f : Found) → lookUpIn w index name ≡ f → Decides (isFound f) (NameMet w index name)
+    go (At i) e = decides-by (λ t. found-met w index name i whole e) (λ m. refl)
+    go Absent e = decides-by (λ t. absurd (true≢false (sym t))) (λ m. absurd (At-absent _ (sym (met-found w index name m (sound .bookingsMost)) ∙ e)))
+
+find-listed : (w index : List ℕ) (name : ℕ) → FindListed w index name (number (indexFindCall w index name))
+unfolding indexFindCall
+find-listed w index name =
+    index-first w _ index refl (λ sound whole e.
+    asked-first (lookUpIn w index name) _ e (met-decides w index name sound whole) (λ i found e.
+    e))
+
 list-listed : (w : List ℕ) → ListListed w (number (listCall w))
 unfolding listCall
 list-listed w = tested-first w done refl (λ sound e. e)
@@ -318,5 +379,8 @@ refused-listed =
       reading = λ what w. reading-listed (readingOf what w) w;
       writing = write-listed;
       readingFile = read-listed;
+      building = build-listed;
+      entering = enter-listed;
+      finding = find-listed;
       list = list-listed;
     }

@@ -36,6 +36,9 @@ use Rattle.promises.specs.Run.{
   Ask,
   WriteFirst,
   ReadFirst,
+  IndexBuild,
+  IndexEnter,
+  IndexFind,
   outcomeOf,
   opens,
   History,
@@ -52,7 +55,7 @@ use Rattle.promises.specs.Run.{
 use Rattle.promises.specs.Soundness.{RunSound}
 use Rattle.promises.specs.Confidence.{Counted, none, counts, passes, sizes, ConfidenceIsCounted, TotalIsSummed, PreferredIsMost}
 use Rattle.promises.specs.Lasting.{Grown, PollsAreCounted}
-use Rattle.promises.proofs.Taken.{Bookable, Pollable, Led, open-taken, open-kept, book-taken, book-kept, poll-taken, poll-kept, write-words, read-taken, read-kept}
+use Rattle.promises.proofs.Taken.{Bookable, Pollable, Led, open-taken, open-kept, book-taken, book-kept, poll-taken, poll-kept, write-words, read-taken, read-kept, build-words, enter-words}
 use Rattle.promises.proofs.Good.{replay-taken}
 use Rattle.promises.proofs.Rebooked.{rebook-taken}
 use Rattle.promises.proofs.Repolled.{votes-decide, polled-as, repoll-taken}
@@ -301,6 +304,9 @@ step-right (Poll name votes) w h right =
     (λ f. right-words (poll-kept w name votes f) right)
 step-right (Ask what name) w h right = right
 step-right (WriteFirst buffer) w h right = right-words (write-words w buffer) right
+step-right (IndexBuild index) w h right = right-words (build-words w index) right
+step-right (IndexEnter index) w h right = right-words (enter-words w index) right
+step-right (IndexFind index name) w h right = right
 step-right (ReadFirst file) w h right =
     by-taken Right (readFirstCall w file .words) (withPolls (decode file .polls) fresh) h (isTaken (readFirstCall w file .answer)) (reading-right w file)
     (λ f. right-words (read-kept w file f) right)
@@ -313,6 +319,9 @@ made-right (Book name slot parents) w h m t = absurd (true≢false (sym m))
 made-right (Poll name votes) w h m t = absurd (true≢false (sym m))
 made-right (Ask what name) w h m t = absurd (true≢false (sym m))
 made-right (WriteFirst buffer) w h m t = absurd (true≢false (sym m))
+made-right (IndexBuild index) w h m t = absurd (true≢false (sym m))
+made-right (IndexEnter index) w h m t = absurd (true≢false (sym m))
+made-right (IndexFind index name) w h m t = absurd (true≢false (sym m))
 made-right (ReadFirst file) w h m t = rw t (reading-right w file t)
 
 run-right : (calls : List Call) (t : Station) → Right (t .words) (t .history) → Right (run calls t .words) (run calls t .history)

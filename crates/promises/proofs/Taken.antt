@@ -1,6 +1,6 @@
 -- What a taken call has passed: each of its tests failed, so the fact that each refusal would deny holds, and its words are the rule's.
--- What a refused call leaves: every word, and every byte. What writing leaves in any case: every word. Assumes nothing.
-use mathlib.Core.Path.{_≡_, refl, sym, ap}
+-- What a refused call leaves: every word, and every byte and cell. What writing a file and the calls about an index leave in any case: every word. Assumes nothing.
+use mathlib.Core.Path.{_≡_, refl, sym, ap, _∙_}
 use mathlib.Core.Bool.{Bool, true, false, not, cond, true≢false}
 use mathlib.Core.List.{List}
 use mathlib.Core.Logic.{_≢_}
@@ -21,18 +21,21 @@ use Rattle.terms.specs.declared.answer.Tested.{Tested}
 use Rattle.terms.specs.declared.answer.Tested.the-variants.{Fine, Stop}
 use Rattle.terms.specs.declared.answer.Answer.{Answer}
 use Rattle.terms.specs.declared.answer.Answer.the-variants.{Taken, Refused}
-use Rattle.terms.specs.Answers.{number, value, outcome, leaves, isTaken, done}
+use Rattle.terms.specs.Answers.{number, value, outcome, leaves, handover, handsOver, isTaken, done}
 use Rattle.rules.specs.Layout.{size, mostBookings, mostParents, slots, bookings, nameOf, stateOf, slotOf, confidenceOf, preferredIn}
 use Rattle.terms.specs.Setting.{Good}
 use Rattle.rules.specs.Sound.{Ledger}
 use Rattle.rules.specs.Open.{opened}
 use Rattle.rules.specs.Book.{lookUp, numberOf, hasUnknown, hasTwice, booked}
 use Rattle.rules.specs.Poll.{polled}
-use Rattle.rules.specs.Calls.{openAnswer, openCall, testOf, unlessStopped, tested, bookAnswer, bookCall, askedOf, pollAnswer, pollCall, readingCall}
+use Rattle.rules.specs.Calls.{openAnswer, openCall, damageOf, testOf, besideOf, unlessStopped, tested, bookAnswer, bookCall, askedOf, pollAnswer, pollCall, readingCall}
 use Rattle.day_file.specs.Bytes.{dayFile}
 use Rattle.day_file.specs.Decode.{decode}
 use Rattle.day_file.specs.Replay.{replay, goodFile}
 use Rattle.day_file.specs.Calls.{laid, writeFirstAnswer, writeFirstCall, readFirstAnswer, readFirstCall}
+use Rattle.name_index.specs.Index.{cells, lookUpIn, isFull, newest, withNumber, built}
+use Rattle.name_index.specs.Calls.{indexTested, enterAnswer, indexBuildCall, indexEnterCall, indexFindCall}
+use Rattle.name_index.proofs.Tested.{besideIndex, fine-index}
 use Rattle.rule_laws.proofs.Calls.{Unmoved, poll-value, leaves-answer, leaves-refused, handsOver-answer, handsOver-words, handsOver-refused, number-refused, open-refused, book-refused, poll-refused}
 use Rattle.rule_laws.proofs.Good.{isGood→Good}
 use Rattle.rule_laws.proofs.Tested.{fine-ledger}
@@ -97,6 +100,23 @@ pub write-words : (w buffer : List ℕ) → writeFirstCall w buffer .words ≡ w
 unfolding writeFirstCall
 write-words w buffer = handsOver-words (writeFirstAnswer testOf w buffer) w buffer _
 
+-- nor do the calls about an index
+pub build-refused : (w index : List ℕ) → number (indexBuildCall w index .answer) ≢ 0 → indexBuildCall w index .lent ≡ index
+unfolding indexBuildCall
+build-refused w index = handsOver-refused (indexTested damageOf w index done) w index _
+
+pub build-words : (w index : List ℕ) → indexBuildCall w index .words ≡ w
+unfolding indexBuildCall
+build-words w index = handsOver-words (indexTested damageOf w index done) w index _
+
+pub enter-refused : (w index : List ℕ) → number (indexEnterCall w index .answer) ≢ 0 → indexEnterCall w index .lent ≡ index
+unfolding indexEnterCall
+enter-refused w index = handsOver-refused (enterAnswer damageOf w index) w index _
+
+pub enter-words : (w index : List ℕ) → indexEnterCall w index .words ≡ w
+unfolding indexEnterCall
+enter-words w index = handsOver-words (enterAnswer damageOf w index) w index _
+
 -- ---- the tests that a taken call has passed
 
 module _ {v : ℤ} where
@@ -109,6 +129,14 @@ module _ {v : ℤ} where
     where
       go : (t : Tested) → testOf w ≡ t → unlessStopped t rest ≡ Taken v → Ledger w × (rest ≡ Taken v)
       go Fine fine e = (fine-ledger w fine, e)
+      go (Stop r) stopped e = absurd (true≢false (sym (ap isTaken e)))
+
+  index-passed : (w index : List ℕ) (rest : Answer) → indexTested damageOf w index rest ≡ Taken v → Ledger w × (length index ≡ cells) × (rest ≡ Taken v)
+  unfolding besideOf
+  index-passed w index rest = go (besideIndex w index) refl
+    where
+      go : (t : Tested) → besideIndex w index ≡ t → unlessStopped t rest ≡ Taken v → Ledger w × (length index ≡ cells) × (rest ≡ Taken v)
+      go Fine fine e = let right = fine-index w index fine in (right .0, right .1, e)
       go (Stop r) stopped e = absurd (true≢false (sym (ap isTaken e)))
 
   asked-passed : (f : Found) (rest : ℕ → Answer) → askedOf f rest ≡ Taken v → (f ≡ At (numberOf f)) × (rest (numberOf f) ≡ Taken v)
@@ -223,3 +251,41 @@ read-value w file = rw (leaves-answer (readFirstAnswer goodFile w file) w (repla
     go true bad z = refl
     go false true z = refl
     go false false z = refl
+
+-- ---- the calls about an index, taken
+
+-- what a taken call that hands something over has in its answer, and what it leaves
+hands-over-taken : (a : Answer) (words before after : List ℕ) → number (handsOver a words before after .answer) ≡ 0
+    → (v : ℤ) × (a ≡ Taken v) × (handsOver a words before after ≡ handover (Taken v) words after)
+hands-over-taken (Taken v) words before after e = (v, refl, refl)
+hands-over-taken (Refused r) words before after e = absurd (number-refused r e)
+
+pub build-taken : (w index : List ℕ) → number (indexBuildCall w index .answer) ≡ 0
+    → Ledger w × (length index ≡ cells) × (indexBuildCall w index ≡ handover done w (built w))
+unfolding indexBuildCall
+build-taken w index e =
+    let taken = hands-over-taken (indexTested damageOf w index done) w index (built w) e in
+    let right = index-passed w index done (taken .1) in
+    (right .0, right .1, taken .2 ∙ ap (λ a. handover a w (built w)) (sym (right .2)))
+
+pub enter-taken : (w index : List ℕ) → number (indexEnterCall w index .answer) ≡ 0
+    → Ledger w × (length index ≡ cells) × (isFull index ≡ false) × (indexEnterCall w index ≡ handover done w (withNumber w (newest w) index))
+unfolding indexEnterCall
+enter-taken w index e =
+    let taken = hands-over-taken (enterAnswer damageOf w index) w index (withNumber w (newest w) index) e in
+    let right = index-passed w index _ (taken .1) in
+    let room = passed (isFull index) _ _ (right .2) in
+    (right .0, right .1, room .0, taken .2 ∙ ap (λ a. handover a w (withNumber w (newest w) index)) (sym (room .1)))
+
+pub find-taken : (w index : List ℕ) (name : ℕ) → number (indexFindCall w index name) ≡ 0
+    → (i : ℕ) × Ledger w × (length index ≡ cells) × (lookUpIn w index name ≡ At i) × (indexFindCall w index name ≡ Taken (pos i))
+unfolding indexFindCall
+find-taken w index name = go (indexFindCall w index name) refl
+  where
+    go : (a : Answer) → indexFindCall w index name ≡ a → number a ≡ 0
+        → (i : ℕ) × Ledger w × (length index ≡ cells) × (lookUpIn w index name ≡ At i) × (a ≡ Taken (pos i))
+    go (Taken v) e z =
+        let right = index-passed w index _ e in
+        let found = asked-passed (lookUpIn w index name) _ (right .2) in
+        (numberOf (lookUpIn w index name), right .0, right .1, found .0, sym (found .1))
+    go (Refused r) e z = absurd (number-refused r z)

@@ -9,4 +9,5 @@ pub mod Ranges
 pub mod Told
 pub mod DayFile
 pub mod ReadFile
+pub mod NameIndex
 pub mod Refusals

@@ -7,6 +7,7 @@ use lib.IntN.{ℤ, pos, natAbs}
 use Rattle.terms.specs.Answers.{number, value}
 use Rattle.rules.specs.Calls.{queryCall, acceptedCall, leadCall, confidenceCall, sizeCall}
 use Rattle.day_file.specs.Calls.{writeFirstCall, readFirstCall}
+use Rattle.name_index.specs.Calls.{indexBuildCall, indexEnterCall, indexFindCall}
 use Rattle.promises.specs.Run.{Call, outcomeOf}
 
 -- z is one of the numbers from least to most
@@ -16,9 +17,10 @@ pub record Between (least most : ℕ) (z : ℤ) : Type 0 where
   pub above : least ≤ number
   pub below : number ≤ most
 
--- the answers of any call on any words. A refusal's value is 0 or a row; each taken reading, and a written file's length, has its range; a file is read with value 0
+-- the answers of any call on any words. A refusal's value is 0 or a row; each taken reading, a written file's length and a
+-- number looked up have their ranges; a file is read, and an index built and entered in, with value 0
 pub record Ranges : Type 0 where
-  pub numbers : (c : Call) (w : List ℕ) → number (outcomeOf c w .answer) ≤ 17
+  pub numbers : (c : Call) (w : List ℕ) → number (outcomeOf c w .answer) ≤ 27
   pub refused : (c : Call) (w : List ℕ) → number (outcomeOf c w .answer) ≢ 0 → Between 0 512 (value (outcomeOf c w .answer))
   pub query : (w : List ℕ) (name : ℕ) → number (queryCall w name) ≡ 0 → Between 0 1 (value (queryCall w name))
   pub accepted : (w : List ℕ) (name : ℕ) → number (acceptedCall w name) ≡ 0 → Between 0 1 (value (acceptedCall w name))
@@ -27,3 +29,6 @@ pub record Ranges : Type 0 where
   pub size : (w : List ℕ) (name : ℕ) → number (sizeCall w name) ≡ 0 → Between 1 512 (value (sizeCall w name))
   pub writing : (w buffer : List ℕ) → number (writeFirstCall w buffer .answer) ≡ 0 → Between 14 12266 (value (writeFirstCall w buffer .answer))
   pub readingFile : (w file : List ℕ) → number (readFirstCall w file .answer) ≡ 0 → value (readFirstCall w file .answer) ≡ pos 0
+  pub building : (w index : List ℕ) → number (indexBuildCall w index .answer) ≡ 0 → value (indexBuildCall w index .answer) ≡ pos 0
+  pub entering : (w index : List ℕ) → number (indexEnterCall w index .answer) ≡ 0 → value (indexEnterCall w index .answer) ≡ pos 0
+  pub finding : (w index : List ℕ) (name : ℕ) → number (indexFindCall w index name) ≡ 0 → Between 0 511 (value (indexFindCall w index name))

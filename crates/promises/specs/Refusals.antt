@@ -1,4 +1,4 @@
--- Each refusal comes exactly in its listed case, the first in the order, and changes no word and no byte. Its value is 0, or with 14 and 15 a row (Damage.antt).
+-- Each refusal comes exactly in its listed case, the first in the order, and changes no word, no byte and no cell. Its value is 0, or with 14 and 15 a row (Damage.antt).
 use mathlib.Core.Path.{_≡_}
 use mathlib.Core.List.{List}
 use mathlib.Core.Logic.{_≢_, _⊎_}
@@ -16,6 +16,9 @@ use Rattle.rules.specs.Calls.{openCall, bookCall, pollCall, readCall}
 use Rattle.rules.specs.Listing.{listCall}
 use Rattle.day_file.specs.Bytes.{dayFile}
 use Rattle.day_file.specs.Calls.{writeFirstCall, readFirstCall}
+use Rattle.name_index.specs.Index.{cells}
+use Rattle.name_index.specs.AsRead.{NameMet, NoneEmpty}
+use Rattle.name_index.specs.Calls.{indexBuildCall, indexEnterCall, indexFindCall}
 use Rattle.promises.specs.Run.{Call, outcomeOf, lentBy, lentAfter}
 use Rattle.promises.specs.Damage.{Broken}
 use Rattle.promises.specs.ReadFile.{Writable}
@@ -136,6 +139,33 @@ ReadFileListed w file =
     (refuses 17 (Writable file → ⊥)
     taken)
 
+-- 18 just after 1: what every call about an index begins with
+abbrev pub indexListed : (w index : List ℕ) → (ℕ → Type 0) → ℕ → Type 0
+indexListed w index rest =
+    refuses 1 (length w ≢ size)
+    (refuses 18 (length index ≢ cells)
+    (damagedListed w
+    rest))
+
+abbrev pub BuildListed : (w index : List ℕ) → ℕ → Type 0
+BuildListed w index =
+    indexListed w index
+    taken
+
+-- 27: no cell holds 65535
+abbrev pub EnterListed : (w index : List ℕ) → ℕ → Type 0
+EnterListed w index =
+    indexListed w index
+    (refuses 27 (NoneEmpty index)
+    taken)
+
+-- 10: probing does not meet the name
+abbrev pub FindListed : (w index : List ℕ) → ℕ → ℕ → Type 0
+FindListed w index name =
+    indexListed w index
+    (refuses 10 (NameMet w index name → ⊥)
+    taken)
+
 -- list may be refused with 1, 2, 14 or 15 only
 abbrev pub ListListed : List ℕ → ℕ → Type 0
 ListListed w =
@@ -149,4 +179,7 @@ pub record RefusedListed : Type 0 where
   pub reading : (what : Reading) (w : List ℕ) (name : ℕ) → ReadingListed w name (number (readCall what w name))
   pub writing : (w buffer : List ℕ) → WriteFileListed w buffer (number (writeFirstCall w buffer .answer))
   pub readingFile : (w file : List ℕ) → ReadFileListed w file (number (readFirstCall w file .answer))
+  pub building : (w index : List ℕ) → BuildListed w index (number (indexBuildCall w index .answer))
+  pub entering : (w index : List ℕ) → EnterListed w index (number (indexEnterCall w index .answer))
+  pub finding : (w index : List ℕ) (name : ℕ) → FindListed w index name (number (indexFindCall w index name))
   pub list : (w : List ℕ) → ListListed w (number (listCall w))

@@ -12,8 +12,9 @@ use Rattle.rules.specs.Calls.{openCall, bookCall, pollCall, readCall}
 use Rattle.day_file.specs.Day.{DayPoll}
 use Rattle.day_file.specs.Decode.{decode}
 use Rattle.day_file.specs.Calls.{writeFirstCall, readFirstCall}
+use Rattle.name_index.specs.Calls.{indexBuildCall, indexEnterCall, indexFindCall}
 
--- the ten calls; the five that Ask has are the readings
+-- the thirteen calls; the five that Ask has are the readings, and three are about an index
 pub data Call : Type 0 where
   Open : Setting → Call
   Book : (name slot : ℕ) (parents : List ℕ) → Call
@@ -21,6 +22,9 @@ pub data Call : Type 0 where
   Ask : (what : Reading) (name : ℕ) → Call
   WriteFirst : (buffer : List ℕ) → Call
   ReadFirst : (file : List ℕ) → Call
+  IndexBuild : (index : List ℕ) → Call
+  IndexEnter : (index : List ℕ) → Call
+  IndexFind : (index : List ℕ) (name : ℕ) → Call
 
 -- what a call gives on the words w
 unfoldable pub outcomeOf : Call → List ℕ → Outcome
@@ -30,6 +34,9 @@ outcomeOf (Poll name votes) w = pollCall w name votes
 outcomeOf (Ask what name) w = outcome (readCall what w name) w
 outcomeOf (WriteFirst buffer) w = outcome (writeFirstCall w buffer .answer) (writeFirstCall w buffer .words)
 outcomeOf (ReadFirst file) w = readFirstCall w file
+outcomeOf (IndexBuild index) w = outcome (indexBuildCall w index .answer) (indexBuildCall w index .words)
+outcomeOf (IndexEnter index) w = outcome (indexEnterCall w index .answer) (indexEnterCall w index .words)
+outcomeOf (IndexFind index name) w = outcome (indexFindCall w index name) w
 
 -- whether the call makes a new ledger of whatever the words were if it is taken: opening does, and reading a file
 abbrev pub opens : Call → Bool
@@ -39,8 +46,11 @@ opens (Poll name votes) = false
 opens (Ask what name) = false
 opens (WriteFirst buffer) = false
 opens (ReadFirst file) = true
+opens (IndexBuild index) = false
+opens (IndexEnter index) = false
+opens (IndexFind index name) = false
 
--- ---- one call is lent a buffer to write into, beside the words; for the others it is empty
+-- ---- three calls are lent a buffer to write into, beside the words; for the others it is empty. A file that is read and an index that is looked up in are only read
 
 -- what stood in it before the call
 abbrev pub lentBy : Call → List ℕ
@@ -50,6 +60,9 @@ lentBy (Poll name votes) = []
 lentBy (Ask what name) = []
 lentBy (WriteFirst buffer) = buffer
 lentBy (ReadFirst file) = []
+lentBy (IndexBuild index) = index
+lentBy (IndexEnter index) = index
+lentBy (IndexFind index name) = []
 
 -- what a call on the words w leaves in it
 unfoldable pub lentAfter : Call → List ℕ → List ℕ
@@ -59,6 +72,9 @@ lentAfter (Poll name votes) w = []
 lentAfter (Ask what name) w = []
 lentAfter (WriteFirst buffer) w = writeFirstCall w buffer .lent
 lentAfter (ReadFirst file) w = []
+lentAfter (IndexBuild index) w = indexBuildCall w index .lent
+lentAfter (IndexEnter index) w = indexEnterCall w index .lent
+lentAfter (IndexFind index name) w = []
 
 -- ---- the history: the bookings of the successful polls, newest first, and how many polls were taken. Which polls succeed is the
 -- law's own test of the votes, `isSuccess`
@@ -88,6 +104,9 @@ historyAfter (Poll name votes) w h =
 historyAfter (Ask what name) w h = h
 historyAfter (WriteFirst buffer) w h = h
 historyAfter (ReadFirst file) w h = cond (isTaken (readFirstCall w file .answer)) (withPolls (decode file .polls) fresh) h
+historyAfter (IndexBuild index) w h = h
+historyAfter (IndexEnter index) w h = h
+historyAfter (IndexFind index name) w h = h
 
 -- ---- runs
 

@@ -1,7 +1,7 @@
 -- Refused calls leave every word and have value 0 unless they name a row; a taken open, book or poll has value 0.
 -- `leaves` hands the words before back in the one arm that a refusal takes, and `handsOver` the bytes, so each call cites one law. Assumes nothing.
-use mathlib.Core.Path.{_≡_, refl, ap}
-use mathlib.Core.Bool.{Bool, true, false, cond}
+use mathlib.Core.Path.{_≡_, refl, sym, ap}
+use mathlib.Core.Bool.{Bool, true, false, cond, true≢false}
 use mathlib.Core.List.{List}
 use mathlib.Core.Logic.{_≢_}
 use Prim.Native.Nat.{ℕ, _≤_}
@@ -27,6 +27,8 @@ use Rattle.terms.specs.declared.answer.Refusal.the-variants.{
   DamagedSlot,
   ShortBuffer,
   BadFile,
+  WrongIndex,
+  IndexFull,
 }
 use Rattle.terms.specs.declared.answer.Found.{Found}
 use Rattle.terms.specs.declared.answer.Found.the-variants.{At, Absent}
@@ -34,13 +36,13 @@ use Rattle.terms.specs.declared.answer.Tested.{Tested}
 use Rattle.terms.specs.declared.answer.Tested.the-variants.{Fine, Stop}
 use Rattle.terms.specs.declared.answer.Answer.{Answer}
 use Rattle.terms.specs.declared.answer.Answer.the-variants.{Taken, Refused}
-use Rattle.terms.specs.Answers.{refusalNumber, refusalRow, number, value, Outcome, leaves, handsOver}
+use Rattle.terms.specs.Answers.{refusalNumber, refusalRow, number, value, isTaken, Outcome, leaves, handsOver}
 use Rattle.rules.specs.Calls.{openAnswer, openCall, testOf, unlessStopped, bookAnswer, bookCall, pollAnswer, pollCall, askedOf}
 
 -- ---- the number tells a refusal from a taken call
 
--- a refusal's number is 1 to 17
-pub refusalNumber-within : (r : Refusal) → (1 ≤ refusalNumber r) × (refusalNumber r ≤ 17)
+-- a refusal's number is 1 to 27
+pub refusalNumber-within : (r : Refusal) → (1 ≤ refusalNumber r) × (refusalNumber r ≤ 27)
 refusalNumber-within WrongLength = omega arith
 refusalNumber-within DamagedHeader = omega arith
 refusalNumber-within BadSetting = omega arith
@@ -58,9 +60,20 @@ refusalNumber-within (DamagedRecord row) = omega arith
 refusalNumber-within (DamagedSlot row) = omega arith
 refusalNumber-within ShortBuffer = omega arith
 refusalNumber-within BadFile = omega arith
+refusalNumber-within WrongIndex = omega arith
+refusalNumber-within IndexFull = omega arith
 
 pub number-refused : (r : Refusal) → number (Refused r) ≢ 0
 number-refused r e = omega (arith, refusalNumber-within r .0)
+
+-- a call is taken exactly if its number is 0
+pub zero-taken : (r : Answer) → number r ≡ 0 → isTaken r ≡ true
+zero-taken (Taken v) e = refl
+zero-taken (Refused r) e = absurd (number-refused r e)
+
+pub taken-zero : (r : Answer) → isTaken r ≡ true → number r ≡ 0
+taken-zero (Taken v) e = refl
+taken-zero (Refused r) e = absurd (true≢false (sym e))
 
 -- a writing call gives its answer
 pub leaves-answer : (a : Answer) (before after : List ℕ) → leaves a before after .answer ≡ a
@@ -97,6 +110,8 @@ row-other (DamagedRecord row) h k = absurd (h refl)
 row-other (DamagedSlot row) h k = absurd (k refl)
 row-other ShortBuffer h k = refl
 row-other BadFile h k = refl
+row-other WrongIndex h k = refl
+row-other IndexFull h k = refl
 
 -- the value of a refused call that names no row
 abbrev pub Valueless : Answer → Type 0

@@ -1,5 +1,5 @@
 -- What the test of a workspace tells: nothing stops a call exactly on a ledger, and there every call but open is what follows the test.
-use mathlib.Core.Path.{_≡_, refl, sym, ap}
+use mathlib.Core.Path.{_≡_, refl, sym, ap, _∙_}
 use mathlib.Core.Bool.{Bool, true, false, not, cond, true≢false}
 use mathlib.Core.List.{List}
 use mathlib.Core.Logic.{_≢_}
@@ -20,7 +20,7 @@ use Rattle.rules.specs.Layout.{size, slots}
 use Rattle.rules.specs.IsSound.{headerGood, recordRow, recordRows, badRecord, slotGood, badSlot}
 use Rattle.rules.specs.Sound.{Ledger}
 use Rattle.rules.specs.Book.{lookUp}
-use Rattle.rules.specs.Calls.{damageOf, testOf, unlessStopped, tested, askedOf, readingCall}
+use Rattle.rules.specs.Calls.{damageOf, testOf, besideOf, unlessStopped, tested, askedOf, readingCall}
 use Rattle.loops.specs.Search.{all}
 use Rattle.loops.proofs.Search.{→all}
 use Rattle.rule_laws.proofs.RowRules.{Rules→headerGood, Rules→recordRow, Rules→slotGood}
@@ -32,7 +32,32 @@ stopped-cond : (t : Bool) (r : Refusal) (more : Tested) (rest : Answer) → unle
 stopped-cond true r more rest = refl
 stopped-cond false r more rest = refl
 
--- a call's refusals 1, 2, 14 and 15 in their order, before its rest
+-- a call's refusals 2, 14 and 15 in their order, before its rest
+pub damaged-in-order : (w : List ℕ) (rest : Answer)
+    → unlessStopped (damageOf w) rest
+    ≡ cond (not (headerGood w)) (Refused DamagedHeader)
+    (cond (not (eqb (badRecord w) recordRows)) (Refused (DamagedRecord (badRecord w)))
+    (cond (not (eqb (badSlot w) slots)) (Refused (DamagedSlot (badSlot w)))
+    rest))
+unfolding damageOf
+damaged-in-order w rest = simp stopped-cond
+
+-- 1 before them
+pub tested-first-length : (w : List ℕ) (rest : Answer)
+    → tested testOf w rest ≡ cond (not (eqb (length w) size)) (Refused WrongLength) (unlessStopped (damageOf w) rest)
+unfolding testOf
+tested-first-length w rest = stopped-cond (not (eqb (length w) size)) WrongLength (damageOf w) rest
+
+-- and, where a second buffer has a length of its own, its refusal between them
+pub beside-in-order : (isWrong : Bool) (r : Refusal) (w : List ℕ) (rest : Answer)
+    → unlessStopped (besideOf isWrong r w) rest
+    ≡ cond (not (eqb (length w) size)) (Refused WrongLength)
+    (cond isWrong (Refused r)
+    (unlessStopped (damageOf w) rest))
+unfolding besideOf
+beside-in-order isWrong r w rest = simp stopped-cond
+
+-- all four in their order
 pub tested-in-order : (w : List ℕ) (rest : Answer)
     → tested testOf w rest
     ≡ cond (not (eqb (length w) size)) (Refused WrongLength)
@@ -112,6 +137,18 @@ ledger-fine w l =
       →all (recordRow w) recordRows (λ i u. Rules→recordRow w i (record-kept w (l .sound) i)),
       →all (slotGood w) slots (λ s u. Rules→slotGood w s (slot-kept w (l .sound) s u)),
     )
+
+-- beside a second buffer of the right length the test is the same, and what is fine has one
+pub beside-right : (r : Refusal) (w : List ℕ) → besideOf false r w ≡ testOf w
+unfolding besideOf testOf
+beside-right r w = refl
+
+pub beside-fine : (isWrong : Bool) (r : Refusal) (w : List ℕ) → besideOf isWrong r w ≡ Fine → (isWrong ≡ false) × Ledger w
+unfolding besideOf
+beside-fine true r w e =
+    let long = fine-cond (eqb (length w) size) _ _ e in
+    absurd (true≢false (sym (ap isFine (long .1))))
+beside-fine false r w e = (refl, fine-ledger w (sym (beside-right r w) ∙ e))
 
 pub tested-known : (w : List ℕ) → Ledger w → (rest : Answer) → tested testOf w rest ≡ rest
 tested-known w l rest = ap (λ t. unlessStopped t rest) (ledger-fine w l)

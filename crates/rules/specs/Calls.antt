@@ -15,6 +15,7 @@ use Rattle.terms.specs.declared.answer.Tested.{Tested}
 use Rattle.terms.specs.declared.answer.Tested.the-variants.{Fine, Stop}
 use Rattle.terms.specs.declared.answer.Answer.{Answer}
 use Rattle.terms.specs.declared.answer.Answer.the-variants.{Taken, Refused}
+use Rattle.terms.specs.declared.answer.Refusal.{Refusal}
 use Rattle.terms.specs.declared.answer.Refusal.the-variants.{
   WrongLength,
   DamagedHeader,
@@ -71,6 +72,13 @@ testBy damage w = cond (not (eqb (length w) size)) (Stop WrongLength) (damage w)
 
 unfoldable pub testOf : List ℕ → Tested
 testOf = testBy damageOf
+
+-- and where a second buffer has to have a length of its own, its refusal just after 1
+abbrev pub besideBy : (damage : List ℕ → Tested) (isWrong : Bool) → Refusal → List ℕ → Tested
+besideBy damage isWrong r = testBy (λ w. cond isWrong (Stop r) (damage w))
+
+unfoldable pub besideOf : (isWrong : Bool) → Refusal → List ℕ → Tested
+besideOf = besideBy damageOf
 
 -- the rest of a call that no test stops
 abbrev pub unlessStopped : Tested → Answer → Answer

@@ -1,10 +1,11 @@
 // THE C FACE: the calls of the ledger under names that C and Rust link, declared in include/filzhammer.h.
-// Each returns the call's number, writes its value through the last pointer, and leaves the call's words, and the call's bytes in a buffer lent
-// for them.
+// Each returns the call's number, writes its value through the last pointer, and leaves the call's words, and the call's bytes or cells in a buffer
+// lent for them.
 use terms::answer::Answer;
 use terms::setting::Setting;
 ghost use Rattle.rules.specs.Calls.{openCall, bookCall, pollCall, queryCall, acceptedCall, leadCall, confidenceCall, sizeCall};
 ghost use Rattle.day_file.specs.Calls.{writeFirstCall, readFirstCall};
+ghost use Rattle.name_index.specs.Calls.{indexBuildCall, indexEnterCall, indexFindCall};
 ghost use Rattle.station.specs.Returned.{Returned, Handed, HandedOver};
 ghost use Rattle.terms.specs.Setting.{settingOf};
 
@@ -107,4 +108,28 @@ pub extern "C" fn filz_read_first(ws: &mut [u16], file: &[u8], value: &mut i64) 
     ensures { λ r. ⌜ Handed (readFirstCall (now (ws .entry)) (now (file .entry))) r (now (value .exit)) (now (ws .exit)) ⌝ }
 {
     tell(ledger::read_first(ws, file), value)
+}
+
+// The index becomes the empty one with every booking's number entered, whatever it held; no word changes. Refusals 1, 18, 2, 14, 15.
+#[no_mangle]
+pub extern "C" fn filz_index_build(ws: &[u16], index: &mut [u16], value: &mut i64) -> u32
+    ensures { λ r. ⌜ HandedOver (indexBuildCall (now (ws .entry)) (now (index .entry))) r (now (value .exit)) (now (ws .entry)) (now (index .exit)) ⌝ }
+{
+    tell(index::build(ws, index), value)
+}
+
+// The newest booking's number enters the index; no word changes. Refusals 1, 18, 2, 14, 15, 27.
+#[no_mangle]
+pub extern "C" fn filz_index_enter(ws: &[u16], index: &mut [u16], value: &mut i64) -> u32
+    ensures { λ r. ⌜ HandedOver (indexEnterCall (now (ws .entry)) (now (index .entry))) r (now (value .exit)) (now (ws .entry)) (now (index .exit)) ⌝ }
+{
+    tell(index::enter(ws, index), value)
+}
+
+// The number of the booking with the name, as probing the index finds it; no word and no cell changes. Refusals 1, 18, 2, 14, 15, 10.
+#[no_mangle]
+pub extern "C" fn filz_index_find(ws: &[u16], index: &[u16], name: u64, value: &mut i64) -> u32
+    ensures { λ r. ⌜ Returned (indexFindCall (now (ws .entry)) (now (index .entry)) name) r (now (value .exit)) ⌝ }
+{
+    tell(index::find(ws, index, name), value)
 }

@@ -19,6 +19,8 @@ use Rattle.terms.specs.declared.answer.Refusal.the-variants.{
   DamagedSlot,
   ShortBuffer,
   BadFile,
+  WrongIndex,
+  IndexFull,
 }
 use Rattle.terms.specs.declared.answer.Answer.{Answer}
 use Rattle.terms.specs.declared.answer.Answer.the-variants.{Taken, Refused}
@@ -43,3 +45,5 @@ taken-by-number (Refused (DamagedRecord row)) = refl
 taken-by-number (Refused (DamagedSlot row)) = refl
 taken-by-number (Refused ShortBuffer) = refl
 taken-by-number (Refused BadFile) = refl
+taken-by-number (Refused WrongIndex) = refl
+taken-by-number (Refused IndexFull) = refl

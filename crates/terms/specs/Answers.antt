@@ -22,6 +22,8 @@ use Rattle.terms.specs.declared.answer.Refusal.the-variants.{
   DamagedSlot,
   ShortBuffer,
   BadFile,
+  WrongIndex,
+  IndexFull,
 }
 use Rattle.terms.specs.declared.answer.Answer.{Answer}
 use Rattle.terms.specs.declared.answer.Answer.the-variants.{Taken, Refused}
@@ -44,6 +46,8 @@ refusalNumber (DamagedRecord row) = 14
 refusalNumber (DamagedSlot row) = 15
 refusalNumber ShortBuffer = 16
 refusalNumber BadFile = 17
+refusalNumber WrongIndex = 18
+refusalNumber IndexFull = 27
 
 -- the lowest row that breaks a rule, where a record or a slot is damaged; 0 for every other refusal
 abbrev pub refusalRow : Refusal → ℕ
@@ -64,6 +68,8 @@ refusalRow (DamagedRecord row) = row
 refusalRow (DamagedSlot row) = row
 refusalRow ShortBuffer = 0
 refusalRow BadFile = 0
+refusalRow WrongIndex = 0
+refusalRow IndexFull = 0
 
 -- a taken call returns 0 and its value, a refusal its number and its row
 abbrev pub number : Answer → ℕ
@@ -79,7 +85,7 @@ abbrev pub isTaken : Answer → Bool
 isTaken (Taken v) = true
 isTaken (Refused r) = false
 
--- open, book, poll and reading a file have value 0
+-- open, book, poll, reading a file, and building and entering an index have value 0
 abbrev pub done : Answer
 done = Taken (pos 0)
 

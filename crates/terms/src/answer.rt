@@ -2,7 +2,7 @@
 ghost use mathlib.Core.Path.{_≡_};
 ghost use Rattle.terms.specs.Answers.{number, refusalNumber, refusalRow, value};
 
-// Why a call was refused, in the order of the numbers 1 to 17. Damage of a record or a slot is named by the lowest
+// Why a call was refused, in the order of their numbers. Damage of a record or a slot is named by the lowest
 // row that breaks a rule.
 pub enum Refusal {
     WrongLength,
@@ -22,9 +22,12 @@ pub enum Refusal {
     DamagedSlot(u16),
     ShortBuffer,
     BadFile,
+    WrongIndex,
+    IndexFull,
 }
 
-// Every call answers so. Open, book, poll and reading a file are taken with value 0, and a file is written with its length.
+// Every call answers so. Open, book, poll, reading a file, building an index and entering are taken with value 0, a file is written with its length, and a
+// name is looked up with its booking's number.
 pub enum Answer {
     Taken(i64),
     Refused(Refusal),
@@ -73,6 +76,8 @@ impl Refusal {
             Refusal::DamagedSlot(_) => 15,
             Refusal::ShortBuffer => 16,
             Refusal::BadFile => 17,
+            Refusal::WrongIndex => 18,
+            Refusal::IndexFull => 27,
         }
     }
 
@@ -98,6 +103,8 @@ impl Refusal {
             Refusal::DamagedSlot(row) => row,
             Refusal::ShortBuffer => 0,
             Refusal::BadFile => 0,
+            Refusal::WrongIndex => 0,
+            Refusal::IndexFull => 0,
         }
     }
 }

@@ -7,7 +7,7 @@
 //! the middle one with them. A single call is seldom interrupted.
 
 use crate::ledgers::{case, words_for, SIZES};
-use random::call::{Call, Face, Second};
+use random::call::{Beside, Call, Face, Second};
 use std::hint::black_box;
 use std::time::{Duration, Instant};
 
@@ -57,7 +57,8 @@ pub fn measure(before: Option<&dyn Face>) -> Vec<Cost> {
 fn measure_case(kind: &'static str, n: usize, before: Option<&dyn Face>) -> Cost {
     let case = case(kind, n);
     let copy = case.ws.clone();
-    let (mut lent, mut out) = (case.ws.clone(), case.call.lent_bytes());
+    let (mut lent, mut bytes) = (case.ws.clone(), case.call.lent_bytes());
+    let (index, mut cells) = (case.call.lent_cells(), case.call.lent_cells());
     let (call, reading) = (&case.call, &case.reading());
     // An older build may ask for fewer words than there are now.
     let before = before.filter(|face| face.has(kind));
@@ -80,12 +81,17 @@ fn measure_case(kind: &'static str, n: usize, before: Option<&dyn Face>) -> Cost
         for place in 0..sides.len() {
             let who = (turn + place) % sides.len();
             if let (Some(face), call, words) = sides[who] {
-                // The words are copied anew outside of the time taken, so
-                // they are warm and the same for every call, and stand at the
-                // same place for all.
+                // Words and cells are copied anew outside of the time taken,
+                // so they are warm and the same for every call, and stand at
+                // the same place for all.
                 let ws = &mut lent[..words.len()];
                 ws.copy_from_slice(words);
-                times[who].push(sample(face, call, ws, &mut out));
+                cells.copy_from_slice(&index);
+                let beside = Beside {
+                    bytes: &mut bytes,
+                    cells: &mut cells,
+                };
+                times[who].push(sample(face, call, ws, beside));
             }
         }
         memcmp.push(timed(BATCH, || {
@@ -108,13 +114,16 @@ fn measure_case(kind: &'static str, n: usize, before: Option<&dyn Face>) -> Cost
 }
 
 /// One call.
-fn sample(face: &dyn Face, call: &Call, ws: &mut [u16], out: &mut [u8]) -> f64 {
+fn sample(face: &dyn Face, call: &Call, ws: &mut [u16], beside: Beside) -> f64 {
+    let mut lent = Some(beside);
     timed(1, || {
-        black_box(face.call(black_box(ws), black_box(out), black_box(call)));
+        let beside = lent.take().expect("one call is timed");
+        black_box(face.call(black_box(ws), black_box(beside), black_box(call)));
     })
 }
 
-fn timed(times: usize, mut action: impl FnMut()) -> f64 {
+/// Nanoseconds of one of so many actions.
+pub fn timed(times: usize, mut action: impl FnMut()) -> f64 {
     let start = Instant::now();
     for _ in 0..times {
         action();

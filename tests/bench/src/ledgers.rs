@@ -5,15 +5,18 @@
 //! over all 64 bits, the setting is the paper's, and every booking but the
 //! last has a chit. The day file, written or read, is that of a ledger with
 //! four parents each and every booking polled: no file of so many bookings is
-//! longer.
+//! longer. An index is the built one, and before the last booking is entered that
+//! of all others.
 //!
 //! A ledger is a list of calls. Another build of the product may lay its words
 //! out otherwise, and is led to the same ledger by its own answers to them.
 
-use random::call::{Buffer, Call, Face};
+use random::call::{Beside, Buffer, Call, Cells, Face, Indexing};
+use random::cells::built;
 use random::grow::words_of;
 use random::planted::WORDS_WITHOUT_MARKS;
 use second::day::Day;
+use second::index::{CELLS, EMPTY};
 use second::layout::{BOOKINGS, N, PARENTS, SLOTS, WORDS};
 use second::ledger::{Ledger, Reading};
 use second::setting::Setting;
@@ -86,7 +89,7 @@ fn ledger(calls: &[Call]) -> Ledger {
 pub fn words_for(face: &dyn Face) -> Option<usize> {
     let is_taken = |words: &usize| {
         let opening = Call::Open(Setting::PAPER);
-        face.call(&mut vec![0; *words], &mut [], &opening) == (0, 0)
+        face.call(&mut vec![0; *words], Beside::default(), &opening) == (0, 0)
     };
     [WORDS, WORDS_WITHOUT_MARKS].into_iter().find(is_taken)
 }
@@ -106,7 +109,7 @@ impl Case {
     pub fn words_by(&self, face: &dyn Face, words: usize) -> Vec<u16> {
         let mut ws = vec![0; words];
         for call in &self.calls {
-            let answer = face.call(&mut ws, &mut [], call);
+            let answer = face.call(&mut ws, Beside::default(), call);
             assert_eq!(answer, (0, 0), "{call:?}");
         }
         ws
@@ -117,6 +120,14 @@ impl Case {
         let last = usize::from(self.ws[N]) - 1;
         Call::Read(Reading::Confidence, name(last))
     }
+}
+
+/// The index of the first `count` bookings.
+fn index(count: usize) -> Cells {
+    Cells(match count {
+        0 => vec![EMPTY; CELLS],
+        _ => built(&ledger(&usual(count))),
+    })
 }
 
 /// The case of each kind of call on a ledger of `n`.
@@ -158,6 +169,17 @@ pub fn case(kind: &str, n: usize) -> Case {
             } else {
                 Call::ReadFirst(file)
             }
+        }
+        "index_build" => Call::Index(Indexing::Build, index(n)),
+        "index_enter" => {
+            if n == 1 {
+                note = "into the empty index".to_string();
+            }
+            Call::Index(Indexing::Enter, index(n - 1))
+        }
+        "index_find" => {
+            note = "the reading searches for the same name".to_string();
+            Call::Index(Indexing::Find(last), index(n))
         }
         _ => {
             let reading = Reading::ALL.into_iter().find(|r| r.word() == kind);

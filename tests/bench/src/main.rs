@@ -5,6 +5,7 @@
 mod calls;
 mod inputs;
 mod ledgers;
+mod lookups;
 mod picture;
 mod processes;
 
@@ -14,8 +15,9 @@ use std::path::{Path, PathBuf};
 use std::process::ExitCode;
 
 const USAGE: &str = "\
-bench [--before PATH] [--ours PATH --second PATH] [--svg PATH]
+bench [--before PATH] [--known PATH] [--ours PATH --second PATH] [--svg PATH]
   --before           another build of the product, a shared object
+  --known            its lookups on words known to be a ledger, a shared object
   --ours, --second   the two console programs
   --svg              where the picture goes, else beside this program";
 
@@ -27,15 +29,18 @@ fn main() -> ExitCode {
     if cfg!(debug_assertions) {
         println!("note: this is not a release build");
     }
-    let before = match order.before.as_deref().map(load).transpose() {
-        Ok(before) => before,
-        Err(what) => {
+    let before = order.before.as_deref().map(load).transpose();
+    let known = order.known.as_deref().map(load_known).transpose();
+    let (before, known) = match (before, known) {
+        (Ok(before), Ok(known)) => (before, known),
+        (Err(what), _) | (_, Err(what)) => {
             println!("FAILED: {what}");
             return ExitCode::FAILURE;
         }
     };
     let costs = calls::measure(before.as_deref());
     calls::print(&costs);
+    lookups::measure_and_print(known.as_deref());
     match (&order.ours, &order.second) {
         (Some(ours), Some(second)) => {
             if let Err(what) = processes::measure_and_print(ours, second) {
@@ -69,8 +74,19 @@ fn load(_: &Path) -> Result<Box<dyn Face>, String> {
     Err("--before compares with the product, which is not linked".to_string())
 }
 
+/// The product's lookups without the test of soundness.
+#[cfg(feature = "station")]
+fn load_known(path: &Path) -> Result<Box<dyn Face>, String> {
+    Ok(Box::new(random::station::Known::load(path)?))
+}
+#[cfg(not(feature = "station"))]
+fn load_known(_: &Path) -> Result<Box<dyn Face>, String> {
+    Err("--known is measured beside the product, which is not linked".to_string())
+}
+
 struct Order {
     before: Option<PathBuf>,
+    known: Option<PathBuf>,
     ours: Option<PathBuf>,
     second: Option<PathBuf>,
     svg: PathBuf,
@@ -80,6 +96,7 @@ impl Order {
     fn read() -> Option<Order> {
         let mut order = Order {
             before: None,
+            known: None,
             ours: None,
             second: None,
             svg: env::current_exe().ok()?.with_file_name("cost.svg"),
@@ -89,6 +106,7 @@ impl Order {
             let path = PathBuf::from(arguments.next()?);
             match &argument[..] {
                 "--before" => order.before = Some(path),
+                "--known" => order.known = Some(path),
                 "--ours" => order.ours = Some(path),
                 "--second" => order.second = Some(path),
                 "--svg" => order.svg = path,

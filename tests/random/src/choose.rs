@@ -1,10 +1,12 @@
 //! A call that shows something on a given ledger: one meant to be taken, or
 //! one meant for a certain refusal.
 
-use crate::call::{Buffer, Call};
+use crate::call::{Buffer, Call, Cells, Indexing};
+use crate::cells;
 use crate::draft::Draft;
 use crate::file;
 use crate::grow::{any_accepted, good_setting, grow, parents_beside, Style};
+use crate::names::Names;
 use crate::prng::Prng;
 use crate::spoil::Kind;
 use second::day::{Day, LONGEST_FILE, SHORTEST_FILE};
@@ -64,9 +66,22 @@ fn reads(ledger: &Ledger) -> usize {
     }
 }
 
+/// How many have to do with the index.
+const INDEXED: usize = 15;
+
 /// A call on the ledger. The style says which slots, parents and names are
-/// likely; `written` is a file of an earlier moment, if there is one.
-pub fn choose(prng: &mut Prng, ledger: &Ledger, style: &Style, written: &[u8]) -> Call {
+/// likely; `written` is a file of an earlier moment, if there is one, and
+/// `index` the one that the run keeps.
+pub fn choose(
+    prng: &mut Prng,
+    ledger: &Ledger,
+    style: &Style,
+    written: &[u8],
+    index: &[u16],
+) -> Call {
+    if prng.chance(INDEXED) {
+        return choose_index(prng, ledger, style, index);
+    }
     if prng.chance(WRITES) {
         let room = any_room(prng, file::length(ledger));
         return write_into(prng, room);
@@ -75,6 +90,28 @@ pub fn choose(prng: &mut Prng, ledger: &Ledger, style: &Style, written: &[u8]) -
         return Call::ReadFirst(any_file(prng, ledger, style, written));
     }
     choose_line(prng, ledger, style)
+}
+
+/// Building, entering or a lookup, with an index of any kind.
+fn choose_index(prng: &mut Prng, ledger: &Ledger, style: &Style, own: &[u16]) -> Call {
+    let newest = ledger.bookings.len() - 1;
+    let (asked, name) = match prng.below(20) {
+        0..=3 => (Indexing::Build, ledger.bookings[newest].name),
+        4..=9 => (Indexing::Enter, ledger.bookings[newest].name),
+        _ => {
+            let name = match prng.below(10) {
+                0..=5 => known_name(prng, ledger),
+                // Records from n on have this name too.
+                6 => 0,
+                7 => unknown_name(prng, ledger),
+                _ => Names::Crowded.fresh(prng, |name| ledger.numbers.contains_key(&name)),
+            };
+            (Indexing::Find(name), name)
+        }
+    };
+    let kind = prng.weigh(&cells::Kind::ALL);
+    let cells = kind.cells(prng, ledger, style, own, name);
+    Call::Index(asked, Cells(cells))
 }
 
 /// A file of this ledger, an earlier one, or one of another ledger; as it was

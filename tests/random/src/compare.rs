@@ -3,12 +3,13 @@
 //! A run starts from a ledger (reached by a history, or sound without one)
 //! and makes calls on it. Some calls are made on a copy that is damaged or
 //! has another length. After each call the numbers, the values, all words, the
-//! lent bytes and the guards are compared; on reached ledgers the laws are
-//! checked, the row named for damage is held to where it was done, a day file
-//! to the words, and marks to the words before. The ledger that a run has grown
-//! is written and read back.
+//! lent bytes, the lent cells and the guards are compared; on reached ledgers
+//! the laws are checked, the row named for damage is held to where it was done, a
+//! day file and an index to the words, and marks to the words before. The ledger
+//! that a run has grown is written and read back.
 
-use crate::call::{Call, Face};
+use crate::call::{Beside, Call, Cells, Face, Indexing};
+use crate::cells::built;
 use crate::choose::{choose, choose_poll, read_contested, write_into};
 use crate::damage::Damaged;
 use crate::events::Moment;
@@ -41,6 +42,8 @@ const LONGEST_EVERY: usize = 60;
 /// last of the calls that it grows by.
 const FEW: usize = 60;
 const RIVALS: usize = 20;
+/// How many taken bookings of a hundred are entered into the run's index.
+const ENTERED: usize = 50;
 
 /// A difference, with the run that led to it as text.
 #[derive(Debug)]
@@ -82,6 +85,9 @@ struct Contest<'a> {
     history: Option<History>,
     /// The last file that was written of the run's own words.
     written: Vec<u8>,
+    /// The index that the run keeps: built, or left behind by bookings, or by
+    /// an opening or a reading.
+    index: Vec<u16>,
     /// Calls that are still to be made before any are chosen.
     ahead: VecDeque<Call>,
     /// The words that the run started from, and all that was done.
@@ -134,6 +140,7 @@ impl<'a> Contest<'a> {
             theirs,
             style: grown.style,
             start: ws.clone(),
+            index: built(&grown.ledger),
             ws,
             history: is_reached.then_some(grown.history),
             written: Vec::new(),
@@ -161,14 +168,14 @@ impl<'a> Contest<'a> {
                     false => None,
                 };
                 let call = next.unwrap_or_else(|| read_contested(prng, &ledger));
-                self.step(ledger, &call, tally)?;
+                self.step(prng, ledger, &call, tally)?;
                 continue;
             }
             // The ledger that has grown is written once, and read once.
             chosen += 1;
             if chosen == 1 {
                 let call = write_into(prng, file::length(&ledger));
-                self.step(ledger, &call, tally)?;
+                self.step(prng, ledger, &call, tally)?;
                 continue;
             }
             if chosen == 2 {
@@ -178,10 +185,10 @@ impl<'a> Contest<'a> {
             if self.history.is_none() && prng.chance(25) {
                 let ledger = self.mark_anew(prng, ledger);
                 let call = choose_poll(prng, &ledger, &self.style);
-                self.step(ledger, &call, tally)?;
+                self.step(prng, ledger, &call, tally)?;
                 continue;
             }
-            let call = choose(prng, &ledger, &self.style, &self.written);
+            let call = choose(prng, &ledger, &self.style, &self.written, &self.index);
             match prng.below(100) {
                 0..=3 => {
                     let resized = any_length(prng, &self.ws);
@@ -192,7 +199,7 @@ impl<'a> Contest<'a> {
                     self.both("other length", &resized, &verdict, &call, tally)?;
                 }
                 4..=38 => self.damaged(prng, &call, tally)?,
-                _ => self.step(ledger, &call, tally)?,
+                _ => self.step(prng, ledger, &call, tally)?,
             }
         }
         self.check_laws(tally)
@@ -208,7 +215,13 @@ impl<'a> Contest<'a> {
     }
 
     /// A call on the run's own words.
-    fn step(&mut self, ledger: Ledger, call: &Call, tally: &mut Tally) -> Result<(), String> {
+    fn step(
+        &mut self,
+        prng: &mut Prng,
+        ledger: Ledger,
+        call: &Call,
+        tally: &mut Tally,
+    ) -> Result<(), String> {
         let before = self.ws.clone();
         let verdict = Ok(ledger);
         let made = self.both("own words", &before, &verdict, call, tally)?;
@@ -244,6 +257,15 @@ impl<'a> Contest<'a> {
                 self.style.setting = day.setting;
             }
             (Call::WriteFirst(_), _) => self.written = made.bytes[..value as usize].to_vec(),
+            _ => (),
+        }
+        match call {
+            Call::Index(Indexing::Build, _) => self.index = made.cells,
+            Call::Index(Indexing::Enter, lent) if lent.0 == self.index => self.index = made.cells,
+            Call::Book { .. } if prng.chance(ENTERED) => {
+                let cells = Cells(self.index.clone());
+                self.ahead.push_front(Call::Index(Indexing::Enter, cells));
+            }
             _ => (),
         }
         Ok(())
@@ -292,7 +314,7 @@ impl<'a> Contest<'a> {
         let answer = self
             .both("damaged", &words, &verdict, call, tally)?
             .our_answer;
-        let (Some(place), false) = (place, call.is_opening()) else {
+        let (Some(place), false) = (place, call.is_blind()) else {
             return Ok(());
         };
         let refusal = place.refusal();
@@ -336,8 +358,8 @@ impl<'a> Contest<'a> {
         let mut told_otherwise = None;
         let picture = Picture::of_words(&self.ws, |name| {
             let call = Call::Read(Reading::Accepted, name);
-            let answer = self.ours.call(guarded.lend(), &mut [], &call);
-            if answer != self.theirs.call(&mut theirs, &mut [], &call) {
+            let answer = self.ours.call(guarded.lend(), Beside::default(), &call);
+            if answer != self.theirs.call(&mut theirs, Beside::default(), &call) {
                 told_otherwise = Some(name);
             }
             answer == (0, 1)
@@ -455,6 +477,16 @@ mod tests {
     fn a_wrong_file_of_both_is_found() {
         let writing = Plant::FILE.into_iter().chain(Plant::WRITING);
         for plant in writing.chain(Plant::READING) {
+            let both = Planted(Some(plant));
+            let (_, difference) = compare(&both, &both, 10_000, 1);
+            assert!(difference.is_some(), "{plant:?}");
+        }
+    }
+
+    /// Likewise an index that both make or read wrongly.
+    #[test]
+    fn a_wrong_index_of_both_is_found() {
+        for plant in Plant::INDEX {
             let both = Planted(Some(plant));
             let (_, difference) = compare(&both, &both, 10_000, 1);
             assert!(difference.is_some(), "{plant:?}");

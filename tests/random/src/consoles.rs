@@ -1,7 +1,7 @@
 //! Console against console: what our program prints for an input, byte by
 //! byte against the second program, and the laws on every list printed.
 
-use crate::call::{Call, Face};
+use crate::call::{Beside, Call, Face};
 use crate::compare::Difference;
 use crate::flaw::Flaw;
 use crate::old_rule;
@@ -280,7 +280,7 @@ fn print(face: &Planted, ws: &mut [u16], line: &[u8], out: &mut String) {
         // It is refused or taken for every name that is booked.
         Command::List => Call::Read(Reading::Accepted, 0),
     };
-    match face.call(ws, &mut [], &call) {
+    match face.call(ws, Beside::default(), &call) {
         (0, _) if is_list => list(face, ws, out),
         (0, _) if call.is_change() => (),
         (0, value) => out.push_str(&format!("{value}\n")),
@@ -292,7 +292,7 @@ fn list(face: &Planted, ws: &mut [u16], out: &mut String) {
     let accepted = |name| {
         face.call(
             &mut ws.to_vec(),
-            &mut [],
+            Beside::default(),
             &Call::Read(Reading::Accepted, name),
         )
     };

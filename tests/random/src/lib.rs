@@ -17,6 +17,10 @@
 //! - `fault`: why a file is bad
 //! - `replayed`: the marks that reading one has to make
 //!
+//! Indexes of names:
+//! - `cells`: indexes of all kinds
+//! - `probed`: an index held to the words, and what was reached of it
+//!
 //! Call against call:
 //! - `call`: a call, and who answers it
 //! - `choose`: a call that shows something on a given ledger
@@ -34,6 +38,7 @@
 //! - `misjudged`: the errors in what it says of damage
 //! - `miswritten`: the errors in the day files that it writes
 //! - `misread`: the errors in how it reads them
+//! - `misindexed`: the errors in its index of names
 //!
 //! Console against console:
 //! - `flaw`: lines that are no command
@@ -43,6 +48,7 @@
 //! - `report`: a failing run, written out
 
 pub mod call;
+pub mod cells;
 pub mod choose;
 pub mod compare;
 pub mod consoles;
@@ -56,6 +62,7 @@ pub mod flaw;
 pub mod grow;
 pub mod guard;
 pub mod made;
+pub mod misindexed;
 pub mod misjudged;
 pub mod mismarked;
 pub mod misread;
@@ -64,6 +71,7 @@ pub mod names;
 pub mod old_rule;
 pub mod planted;
 pub mod prng;
+pub mod probed;
 pub mod relay;
 pub mod replayed;
 pub mod report;

@@ -1,12 +1,13 @@
 //! One call, made by both faces on the same words: what they say and leave
 //! must be the same, and what the rules ask of any call must hold.
 
-use crate::call::{Call, Face};
+use crate::call::{Beside, Call, Face};
 use crate::fault::Fault;
 use crate::file;
 use crate::guard::Guarded;
+use crate::probed;
 use crate::replayed;
-use crate::report::{bytes_text, words_text};
+use crate::report::{bytes_text, cells_text, words_text};
 use second::codec::decode;
 use second::layout::{record, MARK, WORDS};
 use second::ledger::{Ledger, Reading};
@@ -23,24 +24,38 @@ pub struct Made {
     pub their_answer: Answer,
     our_words: Guarded<u16>,
     our_bytes: Guarded<u8>,
+    our_cells: Guarded<u16>,
     /// What theirs left, which is what ours left where nothing differs.
     pub words: Vec<u16>,
     pub bytes: Vec<u8>,
+    pub cells: Vec<u16>,
 }
 
 impl Made {
     pub fn by(ours: &dyn Face, theirs: &dyn Face, before: &[u16], call: &Call) -> Made {
-        let (mut words, mut bytes) = (before.to_vec(), call.lent_bytes());
-        let (mut our_words, mut our_bytes) = (Guarded::new(before), Guarded::new(&bytes[..]));
-        let our_answer = ours.call(our_words.lend(), our_bytes.lend(), call);
-        let their_answer = theirs.call(&mut words, &mut bytes, call);
+        let mut words = before.to_vec();
+        let (mut bytes, mut cells) = (call.lent_bytes(), call.lent_cells());
+        let mut our_words = Guarded::new(before);
+        let (mut our_bytes, mut our_cells) = (Guarded::new(&bytes[..]), Guarded::new(&cells[..]));
+        let beside = Beside {
+            bytes: our_bytes.lend(),
+            cells: our_cells.lend(),
+        };
+        let our_answer = ours.call(our_words.lend(), beside, call);
+        let beside = Beside {
+            bytes: &mut bytes,
+            cells: &mut cells,
+        };
+        let their_answer = theirs.call(&mut words, beside, call);
         Made {
             our_answer,
             their_answer,
             our_words,
             our_bytes,
+            our_cells,
             words,
             bytes,
+            cells,
         }
     }
 
@@ -48,10 +63,14 @@ impl Made {
     pub fn check(&self, before: &[u16], call: &Call, verdict: &Verdict) -> Result<(), String> {
         let lent = call.lent_bytes();
         self.compare(before, &lent, call, verdict).map_err(|what| {
-            let text = |words, bytes| format!("{}{}", words_text(words), bytes_text(bytes));
-            let before = text(before, &lent);
-            let ours = text(self.our_words.lent(), self.our_bytes.lent());
-            let theirs = text(&self.words, &self.bytes);
+            let text = |words: &[u16], bytes: &[u8], cells: &[u16]| {
+                let words = words_text(words);
+                format!("{words}{}{}", bytes_text(bytes), cells_text(cells))
+            };
+            let before = text(before, &lent, &call.lent_cells());
+            let (words, bytes) = (self.our_words.lent(), self.our_bytes.lent());
+            let ours = text(words, bytes, self.our_cells.lent());
+            let theirs = text(&self.words, &self.bytes, &self.cells);
             let (answer, other) = (self.our_answer, self.their_answer);
             format!(
                 "{what}\n{} answered {answer:?}, theirs {other:?}\n\
@@ -71,10 +90,8 @@ impl Made {
         let told = |is_so: bool, what: &str| if is_so { Ok(()) } else { Err(what.to_string()) };
         told(self.our_answer == self.their_answer, "another answer")?;
         told(self.our_words.lent() == self.words, "other words")?;
-        let mut pairs = self.our_bytes.lent().iter().zip(&self.bytes);
-        if let Some(at) = pairs.position(|(ours, theirs)| ours != theirs) {
-            return Err(format!("other bytes, from {at} on"));
-        }
+        same("bytes", self.our_bytes.lent(), &self.bytes)?;
+        same("cells", self.our_cells.lent(), &self.cells)?;
         told(
             self.our_words.is_intact(),
             "a word outside the lent ones was written",
@@ -82,6 +99,10 @@ impl Made {
         told(
             self.our_bytes.is_intact(),
             "a byte outside the lent ones was written",
+        )?;
+        told(
+            self.our_cells.is_intact(),
+            "a word outside the lent index was written",
         )?;
         let may_change = self.our_answer.0 == 0 && call.is_change();
         told(
@@ -96,6 +117,12 @@ impl Made {
         match call {
             Call::WriteFirst(_) => self.check_written(lent, before, verdict),
             Call::ReadFirst(file) => self.check_read(file, before),
+            Call::Index(asked, lent) => probed::check(
+                *asked,
+                (before, verdict),
+                (&lent.0, &self.cells),
+                self.our_answer,
+            ),
             _ => Ok(()),
         }
     }
@@ -179,5 +206,14 @@ impl Made {
             }
         }
         Ok(())
+    }
+}
+
+/// What differs between what both left, from which place on.
+fn same<T: PartialEq>(what: &str, ours: &[T], theirs: &[T]) -> Result<(), String> {
+    let mut pairs = ours.iter().zip(theirs);
+    match pairs.position(|(ours, theirs)| ours != theirs) {
+        Some(at) => Err(format!("other {what}, from {at} on")),
+        None => Ok(()),
     }
 }

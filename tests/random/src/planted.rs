@@ -1,7 +1,8 @@
 //! A copy of the second program's rules with errors planted, to show that
 //! the comparison finds them. Without a plant it must find nothing.
 
-use crate::call::{Call, Face};
+use crate::call::{Beside, Call, Face, Indexing};
+use crate::misindexed;
 use crate::misjudged;
 use crate::mismarked;
 use crate::misread;
@@ -9,6 +10,7 @@ use crate::miswritten;
 use crate::old_rule;
 use second::codec::{encode, ledger_of};
 use second::day::SHORTEST_FILE;
+use second::index::EMPTY;
 use second::layout::*;
 use second::ledger::{read_vote, Ledger, Reading, State, Vote};
 use second::refusal::Refusal;
@@ -124,6 +126,38 @@ pub enum Plant {
     DamagedWordsNotReadInto,
     BadFileBeforeLength,
     ReadingHasFileLength,
+    // the index of names
+    HashedLowestByteFirst,
+    HighHalfUnhashed,
+    MultipliedBeforeXor,
+    ProbedDownwards,
+    NoWayRound,
+    LastCellUntried,
+    StopsAtUnusedNumber,
+    EmptyCellPassedOver,
+    NamesUncompared,
+    UnusedRecordFound,
+    FoundWithoutIndex,
+    FoundMovesHome,
+    FindingTellsCell,
+    EnteringStopsAtName,
+    EntersN,
+    UnusedNumberOverwritten,
+    FullIndexOverwritten,
+    EnteringTellsCell,
+    BuildKeepsOld,
+    BuildInFallingOrder,
+    GenesisNotBuilt,
+    BuildCounts,
+    // the calls on it
+    LongerIndexTaken,
+    IndexLengthInSixteenBits,
+    IndexLengthBeforeWords,
+    IndexLengthAfterHeader,
+    IndexLengthAfterDamage,
+    DamageEmptiesIndex,
+    IndexFullBeforeDamage,
+    IndexKeptInHeader,
 }
 
 impl Plant {
@@ -241,6 +275,39 @@ impl Plant {
         Plant::ReadingHasFileLength,
     ];
 
+    pub const INDEX: [Plant; 30] = [
+        Plant::HashedLowestByteFirst,
+        Plant::HighHalfUnhashed,
+        Plant::MultipliedBeforeXor,
+        Plant::ProbedDownwards,
+        Plant::NoWayRound,
+        Plant::LastCellUntried,
+        Plant::StopsAtUnusedNumber,
+        Plant::EmptyCellPassedOver,
+        Plant::NamesUncompared,
+        Plant::UnusedRecordFound,
+        Plant::FoundWithoutIndex,
+        Plant::FoundMovesHome,
+        Plant::FindingTellsCell,
+        Plant::EnteringStopsAtName,
+        Plant::EntersN,
+        Plant::UnusedNumberOverwritten,
+        Plant::FullIndexOverwritten,
+        Plant::EnteringTellsCell,
+        Plant::BuildKeepsOld,
+        Plant::BuildInFallingOrder,
+        Plant::GenesisNotBuilt,
+        Plant::BuildCounts,
+        Plant::LongerIndexTaken,
+        Plant::IndexLengthInSixteenBits,
+        Plant::IndexLengthBeforeWords,
+        Plant::IndexLengthAfterHeader,
+        Plant::IndexLengthAfterDamage,
+        Plant::DamageEmptiesIndex,
+        Plant::IndexFullBeforeDamage,
+        Plant::IndexKeptInHeader,
+    ];
+
     /// Those of marks that a history can show: there a failed poll finds nobody
     /// to mark, and a booking neither.
     pub fn shown() -> impl Iterator<Item = Plant> {
@@ -255,6 +322,7 @@ impl Plant {
             .chain(Plant::FILE)
             .chain(Plant::WRITING)
             .chain(Plant::READING)
+            .chain(Plant::INDEX)
     }
 }
 
@@ -265,8 +333,8 @@ pub const WORDS_WITHOUT_MARKS: usize = 7_176;
 pub struct Planted(pub Option<Plant>);
 
 impl Face for Planted {
-    fn call(&self, ws: &mut [u16], out: &mut [u8], call: &Call) -> Answer {
-        match self.answer(ws, out, call) {
+    fn call(&self, ws: &mut [u16], beside: Beside, call: &Call) -> Answer {
+        match self.answer(ws, beside, call) {
             Ok(value) => (0, value),
             Err(refusal) => (refusal.number(), refusal.value()),
         }
@@ -278,18 +346,22 @@ impl Planted {
         self.0 == Some(plant)
     }
 
-    fn answer(&self, ws: &mut [u16], out: &mut [u8], call: &Call) -> Result<i64, Refusal> {
+    fn answer(&self, ws: &mut [u16], beside: Beside, call: &Call) -> Result<i64, Refusal> {
         if ws.len() == WORDS_WITHOUT_MARKS && self.has(Plant::WordsWithoutMarksTaken) {
             let mut longer = ws.to_vec();
             longer.resize(WORDS, 0);
-            let result = self.answer(&mut longer, out, call);
+            let result = self.answer(&mut longer, beside, call);
             ws.copy_from_slice(&longer[..WORDS_WITHOUT_MARKS]);
             return result;
         }
+        let Beside { bytes: out, cells } = beside;
         let is_long = ws.len() > WORDS && self.has(Plant::LongerWorkspaceTaken);
         if ws.len() != WORDS && !is_long {
             if self.has(Plant::BadFileBeforeLength) && matches!(call, Call::ReadFirst(_)) {
                 misread::read(self.0, out)?;
+            }
+            if self.has(Plant::IndexLengthBeforeWords) && matches!(call, Call::Index(..)) {
+                misindexed::judge_length(self.0, cells)?;
             }
             return Err(Refusal::Length);
         }
@@ -303,9 +375,12 @@ impl Planted {
         if let Call::ReadFirst(_) = call {
             return self.read(ws, out);
         }
+        if let Call::Index(asked, _) = call {
+            return self.index(ws, cells, *asked, call);
+        }
         let mut ledger = self.load(ws, out, call)?;
         match call {
-            Call::Open(_) | Call::ReadFirst(_) => unreachable!("openings and files are done"),
+            Call::Open(_) | Call::ReadFirst(_) | Call::Index(..) => unreachable!("they are done"),
             Call::Book {
                 name,
                 slot,
@@ -382,6 +457,38 @@ impl Planted {
         } else {
             0
         })
+    }
+
+    /// A call on an index, with the errors planted in what comes before it.
+    fn index(
+        &self,
+        ws: &mut [u16],
+        cells: &mut [u16],
+        asked: Indexing,
+        call: &Call,
+    ) -> Result<i64, Refusal> {
+        let has_length = misindexed::judge_length(self.0, cells);
+        let loaded = self.load(ws, &mut [], call);
+        let is_hidden = match loaded {
+            Ok(_) => false,
+            Err(Refusal::BrokenHeader) => self.has(Plant::IndexLengthAfterHeader),
+            Err(_) => self.has(Plant::IndexLengthAfterDamage),
+        };
+        if !is_hidden {
+            has_length?;
+        }
+        if loaded.is_err() && self.has(Plant::DamageEmptiesIndex) {
+            cells.fill(EMPTY);
+        }
+        let is_full = asked == Indexing::Enter && !cells.contains(&EMPTY);
+        if is_full && self.has(Plant::IndexFullBeforeDamage) {
+            return Err(Refusal::IndexFull);
+        }
+        let value = misindexed::call(self.0, &loaded?, cells, asked)?;
+        if self.has(Plant::IndexKeptInHeader) {
+            ws[HEADER_WORDS - 1] = 1;
+        }
+        Ok(value)
     }
 
     /// The test of soundness, with the errors planted in it and around it.

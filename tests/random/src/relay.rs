@@ -1,7 +1,7 @@
 //! The product's C face, called by a program beside this one: for a machine
 //! that cannot link the library, which is compiled for x86-64.
 
-use crate::call::{Call, Face};
+use crate::call::{Beside, Call, Face, Indexing};
 use second::words::Answer;
 use std::cell::RefCell;
 use std::io::{self, Read, Write};
@@ -39,19 +39,16 @@ impl Relay {
         }
     }
 
-    fn ask(&self, ws: &mut [u16], out: &mut [u8], call: &Call) -> io::Result<Answer> {
+    fn ask(&self, ws: &mut [u16], beside: Beside, call: &Call) -> io::Result<Answer> {
         let (stdin, stdout) = &mut *self.pipes.borrow_mut();
-        stdin.write_all(&request(ws, out, call))?;
+        stdin.write_all(&request(ws, &beside, call))?;
         let mut told = [[0; 8]; 3];
         for number in &mut told {
             stdout.read_exact(number)?;
         }
-        let mut left = vec![0; 2 * ws.len()];
-        stdout.read_exact(&mut left)?;
-        for (word, bytes) in ws.iter_mut().zip(left.chunks_exact(2)) {
-            *word = u16::from_le_bytes([bytes[0], bytes[1]]);
-        }
-        stdout.read_exact(out)?;
+        read_words(stdout, ws)?;
+        stdout.read_exact(beside.bytes)?;
+        read_words(stdout, beside.cells)?;
         let [number, is_intact, value] = told.map(u64::from_le_bytes);
         if is_intact == 0 {
             return Ok((WROTE_OUTSIDE, 0));
@@ -61,15 +58,24 @@ impl Relay {
 }
 
 impl Face for Relay {
-    fn call(&self, ws: &mut [u16], out: &mut [u8], call: &Call) -> Answer {
-        self.ask(ws, out, call)
+    fn call(&self, ws: &mut [u16], beside: Beside, call: &Call) -> Answer {
+        self.ask(ws, beside, call)
             .unwrap_or_else(|error| panic!("the relay no longer answers: {error}, on {call:?}"))
     }
 }
 
-/// A call as `struct asked` of `relay.c`, with the words, its list and the
-/// bytes that it lends.
-fn request(ws: &[u16], out: &[u8], call: &Call) -> Vec<u8> {
+fn read_words(from: &mut impl Read, words: &mut [u16]) -> io::Result<()> {
+    let mut bytes = vec![0; 2 * words.len()];
+    from.read_exact(&mut bytes)?;
+    for (word, bytes) in words.iter_mut().zip(bytes.chunks_exact(2)) {
+        *word = u16::from_le_bytes([bytes[0], bytes[1]]);
+    }
+    Ok(())
+}
+
+/// A call as `struct asked` of `relay.c`, with the words, its list, and the
+/// bytes and the cells that it lends.
+fn request(ws: &[u16], beside: &Beside, call: &Call) -> Vec<u8> {
     let kind = Call::KINDS.iter().position(|kind| *kind == call.kind());
     let (name, numbers, count, list) = match call {
         Call::Open(s) => (0, [s.k, s.a, s.beta1, s.beta2], 0, Vec::new()),
@@ -82,16 +88,20 @@ fn request(ws: &[u16], out: &[u8], call: &Call) -> Vec<u8> {
             (*name, [*slot, 0, 0, 0], parents.len(), list)
         }
         Call::Poll { name, votes } => (*name, [0; 4], votes.len(), votes.clone()),
-        Call::Read(_, name) => (*name, [0; 4], 0, Vec::new()),
-        Call::WriteFirst(_) | Call::ReadFirst(_) => (0, [0; 4], 0, Vec::new()),
+        Call::Read(_, name) | Call::Index(Indexing::Find(name), _) => {
+            (*name, [0; 4], 0, Vec::new())
+        }
+        Call::WriteFirst(_) | Call::ReadFirst(_) | Call::Index(..) => (0, [0; 4], 0, Vec::new()),
     };
     let kind = kind.expect("every kind is listed") as u64;
-    let [words, count, room] = [ws.len(), count, out.len()].map(|n| n as u64);
-    let head = [kind, words, name, count, room];
+    let [words, count] = [ws.len(), count].map(|n| n as u64);
+    let [room, cells] = [beside.bytes.len(), beside.cells.len()].map(|n| n as u64);
+    let head = [kind, words, name, count, room, cells];
     let mut bytes: Vec<u8> = head.iter().flat_map(|n| n.to_le_bytes()).collect();
     bytes.extend(numbers.iter().flat_map(|n| n.to_le_bytes()));
     bytes.extend(ws.iter().flat_map(|word| word.to_le_bytes()));
     bytes.extend(list);
-    bytes.extend(out);
+    bytes.extend(&*beside.bytes);
+    bytes.extend(beside.cells.iter().flat_map(|cell| cell.to_le_bytes()));
     bytes
 }

@@ -1,5 +1,6 @@
 //! A failing run, written out whole.
 
+use second::index::EMPTY;
 use second::layout::*;
 use std::fmt::Write;
 use std::path::PathBuf;
@@ -24,6 +25,18 @@ pub fn bytes_text(bytes: &[u8]) -> String {
             write!(text, " {byte:02x}").expect("a string takes text");
         }
         text.push('\n');
+    }
+    text
+}
+
+/// The cells of an index as text: those that are not empty, each after its
+/// place.
+pub fn cells_text(cells: &[u16]) -> String {
+    let mut text = format!("{} cells", cells.len());
+    for (at, number) in cells.iter().enumerate() {
+        if *number != EMPTY {
+            write!(text, " {at}:{number}").expect("a string takes text");
+        }
     }
     text
 }

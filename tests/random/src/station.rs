@@ -1,6 +1,6 @@
 //! The product through its C face: as it is linked in, or another build of it.
 
-use crate::call::{Call, Face};
+use crate::call::{Beside, Call, Face, Indexing};
 use second::ledger::Reading;
 use second::words::Answer;
 
@@ -14,6 +14,8 @@ type Poll = unsafe extern "C" fn(*mut u16, usize, u64, *const u8, usize, *mut i6
 type Read = unsafe extern "C" fn(*const u16, usize, u64, *mut i64) -> u32;
 type Write = unsafe extern "C" fn(*const u16, usize, *mut u8, usize, *mut i64) -> u32;
 type Restore = unsafe extern "C" fn(*mut u16, usize, *const u8, usize, *mut i64) -> u32;
+type Index = unsafe extern "C" fn(*const u16, usize, *mut u16, usize, *mut i64) -> u32;
+type Find = unsafe extern "C" fn(*const u16, usize, *const u16, usize, u64, *mut i64) -> u32;
 
 extern "C" {
     fn filz_open(
@@ -61,6 +63,28 @@ extern "C" {
         bytes: usize,
         value: *mut i64,
     ) -> u32;
+    fn filz_index_build(
+        ws: *const u16,
+        words: usize,
+        index: *mut u16,
+        cells: usize,
+        value: *mut i64,
+    ) -> u32;
+    fn filz_index_enter(
+        ws: *const u16,
+        words: usize,
+        index: *mut u16,
+        cells: usize,
+        value: *mut i64,
+    ) -> u32;
+    fn filz_index_find(
+        ws: *const u16,
+        words: usize,
+        index: *const u16,
+        cells: usize,
+        name: u64,
+        value: *mut i64,
+    ) -> u32;
 
     fn dlopen(path: *const c_char, flags: c_int) -> *mut c_void;
     fn dlsym(library: *mut c_void, name: *const c_char) -> *mut c_void;
@@ -84,8 +108,11 @@ pub struct Station {
     confidence: Read,
     size: Read,
     write_first: Write,
-    /// Builds from before there was this call have none.
+    /// Builds from before there were these calls have none.
     read_first: Option<Restore>,
+    index_build: Option<Index>,
+    index_enter: Option<Index>,
+    index_find: Option<Find>,
 }
 
 /// The build that is linked in.
@@ -100,18 +127,15 @@ pub const LINKED: Station = Station {
     size: filz_size,
     write_first: filz_write_first,
     read_first: Some(filz_read_first),
+    index_build: Some(filz_index_build),
+    index_enter: Some(filz_index_enter),
+    index_find: Some(filz_index_find),
 };
 
 impl Station {
     /// Another build, from a shared object.
     pub fn load(path: &Path) -> Result<Station, String> {
-        let at = path.to_str().and_then(|text| CString::new(text).ok());
-        let at = at.ok_or("its path is no text")?;
-        // SAFETY: the path ends with a NUL, and the library is never closed.
-        let library = unsafe { dlopen(at.as_ptr(), RTLD_NOW) };
-        if library.is_null() {
-            return Err(format!("{} can't be loaded", path.display()));
-        }
+        let library = library(path)?;
         // SAFETY: each function has the type under which the header of that
         // build declares it.
         unsafe {
@@ -126,9 +150,66 @@ impl Station {
                 size: function(library, "filz_size")?,
                 write_first: function(library, "filz_write_first")?,
                 read_first: function(library, "filz_read_first").ok(),
+                index_build: function(library, "filz_index_build").ok(),
+                index_enter: function(library, "filz_index_enter").ok(),
+                index_find: function(library, "filz_index_find").ok(),
             })
         }
     }
+}
+
+/// The product's lookups without the test of soundness, which its C face does
+/// not have: a shared object has them for a measurement. Their words are those of
+/// a ledger.
+pub struct Known {
+    find: Find,
+    confidence: Read,
+}
+
+impl Known {
+    pub fn load(path: &Path) -> Result<Known, String> {
+        let library = library(path)?;
+        // SAFETY: they are declared as `filz_index_find` and `filz_confidence`.
+        unsafe {
+            Ok(Known {
+                find: function(library, "filz_known_find")?,
+                confidence: function(library, "filz_known_confidence")?,
+            })
+        }
+    }
+}
+
+impl Face for Known {
+    fn call(&self, ws: &mut [u16], beside: Beside, call: &Call) -> Answer {
+        let (words, cells) = (ws.len(), beside.cells);
+        let mut value = UNWRITTEN;
+        // SAFETY: as for `Station`.
+        let number = unsafe {
+            match call {
+                Call::Index(Indexing::Find(name), _) => {
+                    let (index, cells) = (cells.as_ptr(), cells.len());
+                    (self.find)(ws.as_ptr(), words, index, cells, *name, &mut value)
+                }
+                Call::Read(Reading::Confidence, name) => {
+                    (self.confidence)(ws.as_ptr(), words, *name, &mut value)
+                }
+                _ => unreachable!("it has two kinds of calls"),
+            }
+        };
+        (number, value)
+    }
+}
+
+/// A shared object, loaded for good.
+fn library(path: &Path) -> Result<*mut c_void, String> {
+    let at = path.to_str().and_then(|text| CString::new(text).ok());
+    let at = at.ok_or("its path is no text")?;
+    // SAFETY: the path ends with a NUL, and the library is never closed.
+    let library = unsafe { dlopen(at.as_ptr(), RTLD_NOW) };
+    if library.is_null() {
+        return Err(format!("{} can't be loaded", path.display()));
+    }
+    Ok(library)
 }
 
 /// A function of a loaded library.
@@ -145,8 +226,10 @@ unsafe fn function<F>(library: *mut c_void, name: &str) -> Result<F, String> {
 }
 
 impl Face for Station {
-    fn call(&self, ws: &mut [u16], out: &mut [u8], call: &Call) -> Answer {
+    fn call(&self, ws: &mut [u16], beside: Beside, call: &Call) -> Answer {
+        let Beside { bytes, cells } = beside;
         let words = ws.len();
+        let known = "it has this kind of call";
         let mut value = UNWRITTEN;
         // SAFETY: every pointer is that of a slice with the length given
         // beside it, or of the value, and none is kept after the call.
@@ -192,12 +275,47 @@ impl Face for Station {
                     };
                     read(ws.as_ptr(), words, *name, &mut value)
                 }
-                Call::WriteFirst(_) => {
-                    (self.write_first)(ws.as_ptr(), words, out.as_mut_ptr(), out.len(), &mut value)
-                }
+                Call::WriteFirst(_) => (self.write_first)(
+                    ws.as_ptr(),
+                    words,
+                    bytes.as_mut_ptr(),
+                    bytes.len(),
+                    &mut value,
+                ),
                 Call::ReadFirst(_) => {
-                    let read_first = self.read_first.expect("it has this kind of call");
-                    read_first(ws.as_mut_ptr(), words, out.as_ptr(), out.len(), &mut value)
+                    let read_first = self.read_first.expect(known);
+                    read_first(
+                        ws.as_mut_ptr(),
+                        words,
+                        bytes.as_ptr(),
+                        bytes.len(),
+                        &mut value,
+                    )
+                }
+                Call::Index(Indexing::Find(name), _) => {
+                    let find = self.index_find.expect(known);
+                    find(
+                        ws.as_ptr(),
+                        words,
+                        cells.as_ptr(),
+                        cells.len(),
+                        *name,
+                        &mut value,
+                    )
+                }
+                Call::Index(asked, _) => {
+                    let change = match asked {
+                        Indexing::Build => self.index_build,
+                        _ => self.index_enter,
+                    };
+                    let change = change.expect(known);
+                    change(
+                        ws.as_ptr(),
+                        words,
+                        cells.as_mut_ptr(),
+                        cells.len(),
+                        &mut value,
+                    )
                 }
             }
         };
@@ -205,6 +323,12 @@ impl Face for Station {
     }
 
     fn has(&self, kind: &str) -> bool {
-        kind != "read_first" || self.read_first.is_some()
+        match kind {
+            "read_first" => self.read_first.is_some(),
+            "index_build" => self.index_build.is_some(),
+            "index_enter" => self.index_enter.is_some(),
+            "index_find" => self.index_find.is_some(),
+            _ => true,
+        }
     }
 }

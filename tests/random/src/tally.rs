@@ -1,15 +1,17 @@
 //! What the runs have reached. A run that reached too little is a failure:
 //! it would have found nothing.
 
-use crate::call::{Buffer, Call};
+use crate::call::{Buffer, Call, Cells, Indexing};
 use crate::damage::Kind;
 use crate::events::{Moment, EVENTS, UNREACHED_EVENTS};
 use crate::fault::Fault;
 use crate::file;
 use crate::made::Verdict;
+use crate::probed::{Probe, LENGTHS, PROBES};
 use crate::written::{FILES, ROOMS};
 use second::codec::ledger_of;
 use second::day::{LONGEST_FILE, SHORTEST_FILE};
+use second::index::CELLS;
 use second::layout::{BOOKINGS, SLOTS};
 use second::refusal::Refusal;
 use second::sound::{Broken, Damage, Place};
@@ -42,6 +44,10 @@ impl Tally {
         }
         if let Call::ReadFirst(file) = call {
             self.add_read(file, number, before, after);
+        }
+        if let Call::Index(asked, cells) = call {
+            self.add_index(*asked, cells, answer, before);
+            self.add(answered(kind, number));
         }
         if number != 0 {
             self.add(format!("{kind} refused"));
@@ -122,6 +128,28 @@ impl Tally {
         }
     }
 
+    /// Counts which cells a call tried, and of what index; or of which length
+    /// the index was, and which refusal it came before or after.
+    fn add_index(&mut self, asked: Indexing, cells: &Cells, answer: Answer, before: &Verdict) {
+        if cells.0.len() != CELLS {
+            let hidden = before.as_ref().err().and_then(Damage::lowest);
+            self.add(match (answer.0, hidden) {
+                (1, _) => HIDES_OTHER_INDEX.to_string(),
+                (_, None) => OTHER_INDEX_ON_SOUND.to_string(),
+                (_, Some(place)) => hidden_by_index(place.refusal().number()),
+            });
+            for (case, is_met) in LENGTHS {
+                if is_met(cells.0.len()) {
+                    self.add(case);
+                }
+            }
+        } else if let Ok(ledger) = before {
+            for case in Probe::new(asked, answer, ledger, &cells.0).cases() {
+                self.add(case);
+            }
+        }
+    }
+
     /// Counts what was broken when a call was refused for it.
     fn add_broken(&mut self, damage: &Damage) {
         let sentences: BTreeSet<Broken> = damage.0.iter().map(|&(_, broken)| broken).collect();
@@ -156,7 +184,7 @@ impl Tally {
 
     /// What should have been seen and was not.
     pub fn missing(&self) -> Vec<String> {
-        let refusals = (1..=Refusal::HIGHEST).map(refused);
+        let refusals = Refusal::numbers().map(refused);
         let kinds = Call::KINDS.into_iter().map(taken);
         // p above n - 1 is never alone: no ledger has so many ordinals.
         let by_itself = |broken: &Broken| *broken != Broken::PollsAboveBookings;
@@ -176,7 +204,19 @@ impl Tally {
             )
             .chain(Fault::ALL.into_iter().map(bad_for))
             .chain(damaged.clone().map(hides_short_buffer))
-            .chain(damaged.map(keeps_long_buffer));
+            .chain(damaged.clone().map(keeps_long_buffer))
+            .chain(damaged.skip(1).map(hidden_by_index))
+            .chain(PROBES.into_iter().map(|(case, _)| case.to_string()))
+            .chain(LENGTHS.into_iter().map(|(case, _)| case.to_string()))
+            .chain(Call::of_index().flat_map(|kind| {
+                let own = match kind {
+                    "index_enter" => Some(27),
+                    "index_find" => Some(10),
+                    _ => None,
+                };
+                let numbers = [1, 18, 2, 14, 15].into_iter().chain(own);
+                numbers.map(|number| answered(kind, number))
+            }));
         let outcomes = [
             CHIT,
             NO_CHIT,
@@ -201,6 +241,8 @@ impl Tally {
             GOOD_ON_DAMAGED,
             BAD_ON_SOUND,
             BAD_ON_DAMAGED,
+            HIDES_OTHER_INDEX,
+            OTHER_INDEX_ON_SOUND,
         ];
         let all = refusals.chain(kinds).chain(sentences).chain(damages);
         self.unseen(all.chain(cases).chain(outcomes.map(String::from)))
@@ -232,6 +274,8 @@ const GOOD_ON_SOUND: &str = "a good file into sound words";
 const GOOD_ON_DAMAGED: &str = "a good file into damaged words";
 const BAD_ON_SOUND: &str = "a bad file and sound words";
 const BAD_ON_DAMAGED: &str = "a bad file and damaged words";
+const HIDES_OTHER_INDEX: &str = "1 hides 18";
+const OTHER_INDEX_ON_SOUND: &str = "18 on sound words";
 
 fn refused(number: u32) -> String {
     format!("refusal {number:>2}")
@@ -259,6 +303,14 @@ fn hides_short_buffer(number: u32) -> String {
 
 fn keeps_long_buffer(number: u32) -> String {
     format!("{number} with room for any file")
+}
+
+fn hidden_by_index(number: u32) -> String {
+    format!("18 hides {number}")
+}
+
+fn answered(kind: &str, number: u32) -> String {
+    format!("{kind} answered {number:>2}")
 }
 
 /// A case of a file that was written, for one that was read.
@@ -387,6 +439,7 @@ impl Display for Tally {
 mod tests {
     use super::*;
     use crate::grow::words_of;
+    use second::index::EMPTY;
     use second::ledger::Ledger;
     use second::setting::Setting;
     use Place::*;
@@ -626,6 +679,85 @@ mod tests {
             "14 with room for any file",
             "room: none",
             "file: the longest",
+        ] {
+            assert!(is_missing(&tally, what), "{what}");
+        }
+    }
+    /// The same of an index: what was tried of it, its length, and which
+    /// refusal came before or after.
+    #[test]
+    fn what_was_not_indexed_is_missing() {
+        let ledger = || Ok(Ledger::open(Setting::PAPER).expect("it is good"));
+        let damage = || Err(Damage([(Record(0), Broken::GenesisState)].into()));
+        type Step = (Indexing, usize, Answer, Verdict, &'static [&'static str]);
+        let steps: [Step; 6] = [
+            (
+                Indexing::Find(0),
+                CELLS,
+                (10, 0),
+                ledger(),
+                &[
+                    "not found at home",
+                    "index: empty",
+                    "index_find answered 10",
+                ],
+            ),
+            (
+                Indexing::Enter,
+                CELLS,
+                (0, 0),
+                ledger(),
+                &["index_enter taken", "entered at home"],
+            ),
+            (
+                Indexing::Build,
+                CELLS,
+                (14, 0),
+                damage(),
+                &["index_build answered 14"],
+            ),
+            (
+                Indexing::Build,
+                1023,
+                (18, 0),
+                ledger(),
+                &["cells: one too few", "18 on sound words", "refusal 18"],
+            ),
+            (
+                Indexing::Find(0),
+                1025,
+                (18, 0),
+                damage(),
+                &["18 hides 14", "index_find answered 18"],
+            ),
+            (
+                Indexing::Enter,
+                0,
+                (1, 0),
+                Err(Damage::default()),
+                &["1 hides 18", "index_enter answered  1", "cells: none"],
+            ),
+        ];
+        let mut tally = Tally::default();
+        for (asked, cells, answer, before, reached) in steps {
+            for what in reached {
+                assert!(is_missing(&tally, what), "{what}");
+            }
+            let call = Call::Index(asked, Cells(vec![EMPTY; cells]));
+            tally.add_call(&call, answer, &before, &[]);
+            for what in reached {
+                assert!(!is_missing(&tally, what), "{what}");
+            }
+        }
+        for what in [
+            "refusal 27",
+            "index_enter answered 27",
+            "index_build answered  1",
+            "18 hides 2",
+            "18 hides 15",
+            "found at home",
+            "entered twice",
+            "cells: right by their low bits",
         ] {
             assert!(is_missing(&tally, what), "{what}");
         }

@@ -13,6 +13,7 @@
 //! - `day`: what a day file carries, and its bytes
 //! - `parse`: the bytes back to a day
 //! - `replay`: the ledger that a day leads to
+//! - `index`: the index of names beside a ledger
 //! - `words`: the public calls on lent words
 //! - `command`: a line of text to a command
 //! - `console`: the text program
@@ -23,6 +24,7 @@ pub mod codec;
 pub mod command;
 pub mod console;
 pub mod day;
+pub mod index;
 pub mod laws;
 pub mod layout;
 pub mod ledger;

@@ -37,10 +37,17 @@ pub enum Refusal {
     Room,
     /// No writer leaves such a file.
     File,
+    /// The index has another length.
+    IndexLength,
+    /// No cell of the index is empty.
+    IndexFull,
 }
 
 impl Refusal {
-    pub const HIGHEST: u32 = 17;
+    /// Every number that a call may be refused with, in rising order.
+    pub fn numbers() -> impl Iterator<Item = u32> {
+        (1..=18).chain([27])
+    }
 
     pub fn number(self) -> u32 {
         match self {
@@ -61,6 +68,8 @@ impl Refusal {
             Refusal::BrokenEntry(_) => 15,
             Refusal::Room => 16,
             Refusal::File => 17,
+            Refusal::IndexLength => 18,
+            Refusal::IndexFull => 27,
         }
     }
 

@@ -7,6 +7,7 @@
 
 use crate::codec::{encode, ledger_of};
 use crate::day::Day;
+use crate::index::{self, CELLS};
 use crate::layout::WORDS;
 use crate::ledger::{Ledger, Reading};
 use crate::parse::parse;
@@ -35,6 +36,14 @@ fn load(ws: &[u16]) -> Result<Ledger, Refusal> {
         Some(place) => Err(place.refusal()),
         None => Ok(ledger_of(ws)),
     }
+}
+
+/// Refusal 18 comes between the number of the words and what they hold.
+fn load_beside(ws: &[u16], cells: &[u16]) -> Result<Ledger, Refusal> {
+    if ws.len() == WORDS && cells.len() != CELLS {
+        return Err(Refusal::IndexLength);
+    }
+    load(ws)
 }
 
 /// Opening looks at the length and the setting, never at the old words.
@@ -119,4 +128,28 @@ fn handed_over(file: &[u8]) -> Option<Ledger> {
     let day = parse(file)?;
     let ledger = replay(&day)?;
     (Day::of(&ledger).file() == file).then_some(ledger)
+}
+
+/// The cells become the index of the ledger. What they held is not looked at.
+pub fn index_build(ws: &[u16], cells: &mut [u16]) -> Answer {
+    answer(load_beside(ws, cells).map(|ledger| {
+        index::build(&ledger, cells);
+        0
+    }))
+}
+
+/// The newest booking goes into the index.
+pub fn index_enter(ws: &[u16], cells: &mut [u16]) -> Answer {
+    answer(load_beside(ws, cells).and_then(|ledger| {
+        index::enter(&ledger, cells)?;
+        Ok(0)
+    }))
+}
+
+/// The number of the booking with this name, by the index alone.
+pub fn index_find(ws: &[u16], cells: &[u16], name: u64) -> Answer {
+    answer(load_beside(ws, cells).and_then(|ledger| {
+        let number = index::find(&ledger, cells, name)?;
+        Ok(number as i64)
+    }))
 }

@@ -1,4 +1,4 @@
-//! A call is refused as it should be, with no word and no byte changed. What several test files ask.
+//! A call is refused as it should be, with no word, no byte and no cell changed. What several test files ask.
 use filzhammer::*;
 
 /// The call is refused so, and leaves the words alone.
@@ -52,6 +52,19 @@ pub fn read_refused(refusal: Refusal, ws: &mut [u16], file: &[u8]) {
     refused(refusal, ws, |ws| read_first(ws, file));
 }
 
+/// The three calls with an index are refused so, and leave words and cells alone, whatever these hold.
+#[track_caller]
+pub fn index_refused(refusal: Refusal, ws: &mut [u16], cells: usize) {
+    for cell in [0, 65535] {
+        let before = vec![cell; cells];
+        let mut index = before.clone();
+        refused(refusal, ws, |ws| index_build(ws, &mut index));
+        refused(refusal, ws, |ws| index_enter(ws, &mut index));
+        refused(refusal, ws, |ws| index_find(ws, &index, 9).map(drop));
+        assert_eq!(index, before, "a refused call changed a cell");
+    }
+}
+
 /// Every call but open and the reading of a file is refused so, whatever else is wrong with it.
 #[track_caller]
 pub fn all_refused(refusal: Refusal, ws: &mut [u16]) {
@@ -60,6 +73,14 @@ pub fn all_refused(refusal: Refusal, ws: &mut [u16]) {
     readings_refused(refusal, ws, 9);
     for bytes in [0, FILE_LEAST - 1, FILE_MOST] {
         write_refused(refusal, ws, bytes);
+    }
+    index_refused(refusal, ws, CELLS);
+    for cells in [0, CELLS - 1, CELLS + 1] {
+        let first = match refusal {
+            Refusal::WrongLength => refusal,
+            _ => Refusal::WrongIndex,
+        };
+        index_refused(first, ws, cells);
     }
 
     // Of damage reading says nothing: the file alone decides.

@@ -6,10 +6,10 @@ use Rattle.cases.proofs.run.Statement.{statement}
 use Rattle.cases.proofs.run.Tie as tie
 
 abbrev Inv-loop : tie.InvT-loop
-Inv-loop script w₀ noted₀ lent₀ at₀ w noted lent at = at ≤ length script + 1
+Inv-loop script w₀ noted₀ cells₀ lent₀ at₀ w noted cells lent at = at ≤ length script + 1
 
 abbrev μ-loop : tie.MeasureT-loop
-μ-loop script w₀ noted₀ lent₀ at₀ w noted lent at = length script - at
+μ-loop script w₀ noted₀ cells₀ lent₀ at₀ w noted cells lent at = length script - at
 
 loop-holds : tie.Need-loop-holds Inv-loop μ-loop
 loop-holds c = search needs

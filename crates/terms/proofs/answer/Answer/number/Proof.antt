@@ -1,4 +1,7 @@
+-- `number` gives a refusal's own number.
+use mathlib.Core.Path.{sym, ap, _∙_}
 use borrow.Author.Needs.{needs}
+use Rattle.terms.specs.Answers.{number}
 use Rattle.terms.proofs.answer.Answer.number.Statement.{statement}
 use Rattle.terms.proofs.answer.Answer.number.Tie as tie
 
@@ -15,7 +18,7 @@ returns : tie.Need-returns
 returns c = search needs
 
 returns-2 : tie.Need-returns-2
-returns-2 c = search needs
+returns-2 c = c .number .ensures ∙ ap number (sym (c .before .before .self .given .1))
 
 pub number-spec : {M : Type 1} → statement M
 number-spec = tie.close (tie.spec enum-told enum-known-self number-requires returns returns-2)
