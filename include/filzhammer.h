@@ -34,7 +34,7 @@ extern "C" {
 /*
  * The workspace: FILZ_WORDS words of 16 bits.
  *
- *      0            header: n, k, a, beta1, beta2, p, 0, 0
+ *      0            header: n, k, a, beta1, beta2, p, edition, 0
  *      8 + 13 * b   the record of booking b, for b from 0 to 511
  *   6664 +  4 * s   the entry of slot s, for s from 0 to 255
  *   7688            the end
@@ -63,7 +63,8 @@ extern "C" {
 #define FILZ_HEADER_A 2
 #define FILZ_HEADER_BETA1 3
 #define FILZ_HEADER_BETA2 4
-#define FILZ_HEADER_P 5 /* polls taken */
+#define FILZ_HEADER_P 5       /* polls taken */
+#define FILZ_HEADER_EDITION 6 /* of the rules: FILZ_FIRST_EDITION or FILZ_LATER_EDITION */
 
 /* Words of a record. */
 #define FILZ_RECORD_NAME 0    /* four words, the highest part first */
@@ -77,7 +78,7 @@ extern "C" {
 /* Words of a slot entry. */
 #define FILZ_SLOT_PREFERRED 0 /* the number of the booking that this station stands for */
 #define FILZ_SLOT_LAST 1      /* the number of the booking that a successful poll raised last; before any did, the slot's first */
-#define FILZ_SLOT_COUNTER 2   /* how often it was raised since; the raise by which it became last is not counted */
+#define FILZ_SLOT_COUNTER 2   /* how often it was raised since it became last; each edition counts in its own way, see below */
 #define FILZ_SLOT_BOOKINGS 3  /* how many bookings the slot has */
 
 /* Votes. Every byte from 2 to 254 is refused. */
@@ -85,7 +86,23 @@ extern "C" {
 #define FILZ_YES 1
 #define FILZ_NO 255 /* the signed byte -1 */
 
-/* The setting of the paper that the rules come from. */
+/*
+ * The editions of the rules. The edition is part of a ledger's setting: it is given at opening, stays until the next opening or
+ * reading of a day file, and goes along in the file. They differ in three places, and in nothing else:
+ *
+ *                                                     FILZ_FIRST_EDITION   FILZ_LATER_EDITION
+ *   a counter, where another booking becomes last     becomes 0            becomes 1
+ *   a counter that is enough for an acceptance        is above its beta    is at least its beta
+ *   a counter of a slot in a failed poll's ancestry   stays                becomes 0
+ *
+ * The slots in the ancestry are that of the booking itself and those of everything reached through parents, slot 0 among them,
+ * whoever is last there; preferred and last stay. Confidence and preference are the same in both editions. Stations whose
+ * ledgers are to agree take the same one.
+ */
+#define FILZ_FIRST_EDITION 0
+#define FILZ_LATER_EDITION 1
+
+/* The setting of the paper that the rules come from; it goes with either edition. */
 #define FILZ_PAPER_K 10
 #define FILZ_PAPER_A 8
 #define FILZ_PAPER_BETA1 11
@@ -95,16 +112,16 @@ extern "C" {
  * The day file: today's ledger as bytes, to hand over. Three sections, each after its count. A number takes two bytes and a
  * name eight, the highest byte first; a parent, and the booking of a poll, are given by their numbers.
  *
- *      0   4, then k, a, beta1, beta2
- *     10   n - 1, then for each booking from number 1 on: its name, its slot, how many parents it has, and those parents
+ *      0   4, then k, a, beta1, beta2; or, with the later edition, 5, then these four and the edition, 1
+ *   next   n - 1, then for each booking from number 1 on: its name, its slot, how many parents it has, and those parents
  *   next   p, then for each poll in the order in which they were taken: its booking, and 1 if it succeeded or 0
  *
- * That is 14 bytes, 12 more for each booking but the genesis, 2 for each parent and 4 for each poll. Bookings 1, 2 and 3 have
- * at most as many parents as there are lower numbers. Who is accepted is not in it, and may come out otherwise where it is
- * read. docs/DAYFILE.md explains a file byte by byte.
+ * That is 14 bytes, 2 more with the later edition, 12 for each booking but the genesis, 2 for each parent and 4 for each poll.
+ * Bookings 1, 2 and 3 have at most as many parents as there are lower numbers. Who is accepted is not in it, and may come out
+ * otherwise where it is read. docs/DAYFILE.md explains a file byte by byte.
  */
-#define FILZ_FILE_LEAST 14   /* the file of the genesis alone */
-#define FILZ_FILE_MOST 12266 /* of 512 bookings with as many parents as they can have, all polled: room for every file */
+#define FILZ_FILE_LEAST 14   /* the file of the genesis alone, with the first edition */
+#define FILZ_FILE_MOST 12268 /* of 512 bookings with all parents and polls that can be, with the later: room for every file */
 
 /*
  * The index: FILZ_CELLS lent words of 16 bits beside a ledger, its cells, by which a booking is found by its name. A cell holds
@@ -136,8 +153,8 @@ extern "C" {
 enum filz_number {
     FILZ_TAKEN = 0,
     FILZ_WRONG_LENGTH = 1,    /* the workspace isn't FILZ_WORDS long */
-    FILZ_DAMAGED_HEADER = 2,  /* n, the setting, p or the last two header words break a rule: never opened, or damaged since */
-    FILZ_BAD_SETTING = 3,     /* the setting breaks 1 <= k <= 64, a <= k < 2 * a or 1 <= beta1 <= beta2 <= 510 */
+    FILZ_DAMAGED_HEADER = 2,  /* n, the setting, p or the last header word breaks a rule: never opened, or damaged since */
+    FILZ_BAD_SETTING = 3,     /* it breaks 1 <= k <= 64, a <= k < 2 * a, 1 <= beta1 <= beta2 <= 510 or edition <= 1 */
     FILZ_NAME_TAKEN = 4,      /* a booking has this name already; name 0 is the genesis's */
     FILZ_BAD_SLOT = 5,        /* the slot is 0 or above 255 */
     FILZ_BAD_PARENTS = 6,     /* no parents, or more than four */
@@ -159,12 +176,13 @@ enum filz_number {
 /*
  * Makes the words a ledger that has only the genesis, whatever they were before.
  *
- * k is how many votes a poll has and a how many of them must be yes; beta1 and beta2 are what a slot's counter has
- * to be above for an acceptance: see filz_accepted.
+ * k is how many votes a poll has and a how many of them must be yes; beta1 and beta2 are what a slot's counter is compared
+ * with for an acceptance: see filz_accepted. `edition` is FILZ_FIRST_EDITION or FILZ_LATER_EDITION.
  *
  * Refuses, in this order: FILZ_WRONG_LENGTH, FILZ_BAD_SETTING.
  */
-uint32_t filz_open(uint16_t *ws, size_t words, uint16_t k, uint16_t a, uint16_t beta1, uint16_t beta2, int64_t *value);
+uint32_t filz_open(uint16_t *ws, size_t words, uint16_t k, uint16_t a, uint16_t beta1, uint16_t beta2, uint16_t edition,
+                   int64_t *value);
 
 /*
  * Books `name` for `slot` on parents booked earlier, which are given by their names. It waits for its poll, with
@@ -180,8 +198,9 @@ uint32_t filz_book(uint16_t *ws, size_t words, uint64_t name, uint16_t slot, con
 /*
  * Enters the completed poll of a waiting booking, one byte for each of the k stations asked. It succeeds if at least a of
  * them are yes; no and silence count alike. Then every member of its ancestry, itself too, gains one confidence, and those
- * strictly ahead of their slot's preferred booking take its place. A failed poll only notes the booking as polled. After
- * either, all bookings that then meet the rule of acceptance are marked: see filz_accepted. A booking is polled once.
+ * strictly ahead of their slot's preferred booking take its place. A failed poll only notes the booking as polled, and with the
+ * later edition makes the counter of every slot in that ancestry 0. After either, all bookings that then meet the rule of
+ * acceptance are marked: see filz_accepted. A booking is polled once.
  *
  * Refuses, in this order: FILZ_WRONG_LENGTH, FILZ_DAMAGED_HEADER, FILZ_DAMAGED_RECORD, FILZ_DAMAGED_SLOT,
  * FILZ_UNKNOWN_NAME, FILZ_NOT_WAITING, FILZ_WRONG_VOTES, FILZ_BAD_VOTE.
@@ -204,6 +223,7 @@ uint32_t filz_query(const uint16_t *ws, size_t words, uint64_t name, int64_t *va
  * marked, and either
  *  - it is alone in its slot, all its parents are marked and the slot's counter is above beta1; or
  *  - it is both preferred and last in its slot and the counter is above beta2.
+ * With the later edition a counter of at least beta1, or of at least beta2, is enough.
  * A parent that is marked in the same turn counts. So an accepted booking stays accepted, whatever rivals come and win, until
  * the words are opened anew or a day file is read into them; and of the bookings of one slot at most one is accepted.
  */
@@ -245,7 +265,8 @@ uint32_t filz_write_first(const uint16_t *ws, size_t words, uint8_t *out, size_t
  * `file` leads to `bytes` bytes, all of them the file's. It overlaps neither the workspace nor the value.
  *
  * A file is good if the writer could have written it after calls that were taken:
- *  - it begins with 4 and a good setting, see FILZ_BAD_SETTING;
+ *  - it begins with 4 and a good setting of the first edition, see FILZ_BAD_SETTING, or with 5 and one of the later: 5 with
+ *    edition 0 is bad;
  *  - it has at most 511 bookings. Each has a name that is not 0 and that no earlier one has, a slot from 1 to 255, and one to
  *    four parents, each a lower number than its own and none of them twice;
  *  - each poll is of a booking other than the genesis, none is of one that was polled before, and its outcome is 0 or 1;

@@ -24,7 +24,7 @@ static uint32_t make_ledger(void)
     const uint8_t two[3] = {FILZ_YES, FILZ_YES, FILZ_NO}, few[3] = {FILZ_YES, FILZ_SILENT, FILZ_SILENT};
     const uint8_t all[3] = {FILZ_YES, FILZ_YES, FILZ_YES};
     int64_t value;
-    uint32_t sum = filz_open(good, FILZ_WORDS, 3, 2, 1, 2, &value);
+    uint32_t sum = filz_open(good, FILZ_WORDS, 3, 2, 1, 2, FILZ_FIRST_EDITION, &value);
     sum += filz_book(good, FILZ_WORDS, 1, 7, genesis, 1, &value);
     sum += filz_book(good, FILZ_WORDS, 2, 7, genesis, 1, &value);
     sum += filz_book(good, FILZ_WORDS, 3, 9, one, 1, &value);
@@ -41,7 +41,7 @@ static uint32_t make_late_rival(void)
     const uint64_t genesis[1] = {0}, one[1] = {1};
     const uint8_t all[3] = {FILZ_YES, FILZ_YES, FILZ_YES};
     int64_t value;
-    uint32_t sum = filz_open(good, FILZ_WORDS, 3, 2, 1, 2, &value);
+    uint32_t sum = filz_open(good, FILZ_WORDS, 3, 2, 1, 2, FILZ_FIRST_EDITION, &value);
     sum += filz_book(good, FILZ_WORDS, 1, 7, genesis, 1, &value);
     sum += filz_book(good, FILZ_WORDS, 2, 8, one, 1, &value);
     sum += filz_poll(good, FILZ_WORDS, 1, all, 3, &value);
@@ -55,7 +55,7 @@ static uint32_t fill_ledger(void)
 {
     const uint64_t genesis[1] = {0};
     int64_t value;
-    uint32_t sum = filz_open(good, FILZ_WORDS, 3, 2, 1, 2, &value);
+    uint32_t sum = filz_open(good, FILZ_WORDS, 3, 2, 1, 2, FILZ_FIRST_EDITION, &value);
     for (uint64_t name = 1; name < FILZ_BOOKINGS; name++)
         sum += filz_book(good, FILZ_WORDS, name, 7, genesis, 1, &value);
     return sum;
@@ -180,6 +180,8 @@ int main(void)
 
     hit_word(FILZ_HEADER_P, 7);                         /* at most n - 1, which is 4 */
     hit_word(FILZ_HEADER_P, 4);                         /* a fourth poll, whose ordinal nobody holds */
+    hit_word(FILZ_HEADER_EDITION, 2);                   /* there are two editions, 0 and 1 */
+    hit_word(FILZ_HEADER_WORDS - 1, 1);                 /* the header's last word is 0 */
     hit_word(in_record(0, FILZ_RECORD_MARK), 0);        /* the genesis is accepted */
     hit_word(in_record(1, FILZ_RECORD_NAME + 3), 3);    /* a name that 3 has too */
     hit_word(in_record(2, FILZ_RECORD_MARK), 2);        /* a mark is 0 or 1 */
@@ -191,6 +193,8 @@ int main(void)
     hit_word(in_slot(7, FILZ_SLOT_COUNTER), 2);         /* which is 2, so this breaks no rule */
     printf("not earned, ");
     hit_word(in_record(1, FILZ_RECORD_MARK), 1); /* the only mark in slot 7, so this breaks none either */
+    printf("another edition, ");
+    hit_word(FILZ_HEADER_EDITION, FILZ_LATER_EDITION); /* nor does this: the file has two bytes more */
 
     if (make_late_rival() != FILZ_TAKEN) {
         printf("the ledger could not be made\n");
@@ -217,7 +221,7 @@ int main(void)
     printf("size of the genesis then: %" PRIu32, filz_size(lent, FILZ_WORDS, 0, &value));
     printf(" %" PRId64 "\n", value);
     memcpy(lent, hit, sizeof lent);
-    printf("open: %" PRIu32 "\n", filz_open(lent, FILZ_WORDS, 3, 2, 1, 2, &value));
+    printf("open: %" PRIu32 "\n", filz_open(lent, FILZ_WORDS, 3, 2, 1, 2, FILZ_FIRST_EDITION, &value));
     printf("size of the genesis then: %" PRIu32, filz_size(lent, FILZ_WORDS, 0, &value));
     printf(" %" PRId64 "\n", value);
     return 0;

@@ -1,6 +1,7 @@
 /*
- * Day files, byte by byte: of the ledger of the example in README.md, which docs/DAYFILE.md explains, and of a smaller one
- * whose names are not its numbers. Then which buffers have room for a file. Prints what day_file.txt holds.
+ * Day files, byte by byte: of the ledger of the example in README.md, which docs/DAYFILE.md explains, of the same with the later
+ * edition, and of a smaller one whose names are not its numbers. Then which buffers have room for a file. Prints what
+ * day_file.txt holds.
  */
 #include "filzhammer.h"
 
@@ -28,10 +29,10 @@ static void taken(uint32_t number)
     }
 }
 
-static void open_ledger(uint16_t k, uint16_t a, uint16_t beta1, uint16_t beta2)
+static void open_ledger(uint16_t k, uint16_t a, uint16_t beta1, uint16_t beta2, uint16_t edition)
 {
     int64_t value;
-    taken(filz_open(ledger, FILZ_WORDS, k, a, beta1, beta2, &value));
+    taken(filz_open(ledger, FILZ_WORDS, k, a, beta1, beta2, edition, &value));
 }
 
 static void book(uint64_t name, uint16_t slot, const uint64_t *parents, size_t count)
@@ -48,10 +49,10 @@ static void poll_three(uint64_t name, uint8_t first, uint8_t second, uint8_t thi
 }
 
 /* The example of README.md. Numbers and names are the same. */
-static void make_example(void)
+static void make_example(uint16_t edition)
 {
     const uint64_t genesis[1] = {0}, one[1] = {1}, both[2] = {1, 2};
-    open_ledger(3, 2, 1, 2);
+    open_ledger(3, 2, 1, 2, edition);
     book(1, 7, genesis, 1);
     book(2, 7, genesis, 1);
     book(3, 9, one, 1);
@@ -66,16 +67,16 @@ static void make_example(void)
 static void make_named(void)
 {
     const uint64_t genesis[1] = {0}, both[2] = {UINT64_C(0x0102030405060708), 0};
-    open_ledger(3, 2, 11, 300);
+    open_ledger(3, 2, 11, 300, FILZ_FIRST_EDITION);
     book(both[0], 255, genesis, 1);
     book(1, 8, both, 2);
     poll_three(1, FILZ_YES, FILZ_NO, FILZ_SILENT);
 }
 
 /* As many bookings, parents and polls as a ledger can have. Of the four names those that are parents stand first. */
-static void make_longest(void)
+static void make_longest(uint16_t edition)
 {
-    open_ledger(3, 2, 1, 2);
+    open_ledger(3, 2, 1, 2, edition);
     for (uint64_t name = 1; name < FILZ_BOOKINGS; name++) {
         const uint64_t parents[FILZ_PARENTS] = {name - 1, name - 2, name - 3, name - 4};
         book(name, 7, parents, name < FILZ_PARENTS ? (size_t)name : FILZ_PARENTS);
@@ -134,12 +135,12 @@ static uint64_t next(size_t bytes)
 
 static void show_setting(void)
 {
-    const char *const names[4] = {"k", "a", "beta1", "beta2"};
+    const char *const names[5] = {"k", "a", "beta1", "beta2", "the edition"};
     const uint64_t count = next(2);
     printf("the setting has %" PRIu64 " numbers\n", count);
     for (uint64_t place = 0; place < count; place++) {
         const uint64_t number = next(2);
-        printf("%s is %" PRIu64 "\n", place < 4 ? names[place] : "unknown", number);
+        printf("%s is %" PRIu64 "\n", place < 5 ? names[place] : "unknown", number);
     }
 }
 
@@ -190,23 +191,37 @@ static void show_file(const char *title)
 
 int main(void)
 {
-    make_example();
+    make_example(FILZ_FIRST_EDITION);
     show_file("the ledger of the example");
     write_into(0);
     write_into(87);
     write_into(88);
     write_into(89);
 
+    make_example(FILZ_LATER_EDITION);
+    show_file("the same with the later edition");
+    write_into(89);
+    write_into(90);
+
     make_named();
     show_file("names that are not numbers");
 
-    open_ledger(3, 2, 1, 2);
+    open_ledger(3, 2, 1, 2, FILZ_FIRST_EDITION);
     printf("the genesis alone\n");
     write_into(FILZ_FILE_LEAST - 1);
     write_into(FILZ_FILE_LEAST);
+    open_ledger(3, 2, 1, 2, FILZ_LATER_EDITION);
+    printf("the genesis alone, with the later edition\n");
+    write_into(FILZ_FILE_LEAST + 1);
+    write_into(FILZ_FILE_LEAST + 2);
 
-    make_longest();
+    make_longest(FILZ_FIRST_EDITION);
     printf("as much as a ledger holds\n");
+    write_into(FILZ_FILE_MOST - 3);
+    write_into(FILZ_FILE_MOST - 2);
+    write_into(FILZ_FILE_MOST - 1);
+    make_longest(FILZ_LATER_EDITION);
+    printf("as much, with the later edition\n");
     write_into(FILZ_FILE_MOST - 1);
     write_into(FILZ_FILE_MOST);
     write_into(FILZ_FILE_MOST + 1);

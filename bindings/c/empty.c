@@ -32,7 +32,7 @@ int main(void)
     uint8_t out[1] = {77};
     const uint8_t file[1] = {0};
     uint16_t cell[1] = {77};
-    if (filz_open(ws, FILZ_WORDS, 1, 1, 1, 2, &value) != FILZ_TAKEN
+    if (filz_open(ws, FILZ_WORDS, 1, 1, 1, 2, FILZ_FIRST_EDITION, &value) != FILZ_TAKEN
         || filz_book(ws, FILZ_WORDS, 1, 7, genesis, 1, &value) != FILZ_TAKEN) {
         fprintf(stderr, "the ledger could not be made\n");
         return 1;
@@ -41,7 +41,7 @@ int main(void)
     value = 77;
 
     /* no words */
-    expect(__LINE__, filz_open(NULL, 0, 1, 1, 1, 2, &value), FILZ_WRONG_LENGTH);
+    expect(__LINE__, filz_open(NULL, 0, 1, 1, 1, 2, FILZ_FIRST_EDITION, &value), FILZ_WRONG_LENGTH);
     expect(__LINE__, filz_book(NULL, 0, 2, 7, genesis, 1, &value), FILZ_WRONG_LENGTH);
     expect(__LINE__, filz_poll(NULL, 0, 1, yes, 1, &value), FILZ_WRONG_LENGTH);
     expect(__LINE__, filz_query(NULL, 0, 1, &value), FILZ_WRONG_LENGTH);
@@ -79,7 +79,7 @@ int main(void)
     expect(__LINE__, filz_index_enter(ws, FILZ_WORDS, cell, 0, &value), FILZ_WRONG_INDEX);
     expect(__LINE__, filz_index_find(ws, FILZ_WORDS, NULL, 0, 1, &value), FILZ_WRONG_INDEX);
     expect(__LINE__, filz_index_find(ws, FILZ_WORDS, cell, 0, 1, &value), FILZ_WRONG_INDEX);
-    expect(__LINE__, filz_open(none, 0, 1, 1, 1, 2, &value), FILZ_WRONG_LENGTH);
+    expect(__LINE__, filz_open(none, 0, 1, 1, 1, 2, FILZ_FIRST_EDITION, &value), FILZ_WRONG_LENGTH);
     expect(__LINE__, filz_write_first(none, 0, out, 0, &value), FILZ_WRONG_LENGTH);
     expect(__LINE__, filz_read_first(none, 0, file, 0, &value), FILZ_WRONG_LENGTH);
 

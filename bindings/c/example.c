@@ -1,6 +1,6 @@
 /*
- * Two small ledgers, from opening to acceptance: five bookings of which two compete for slot 7, then one booking that is
- * accepted, and stays so when a rival comes. Prints what example.txt holds.
+ * Three small ledgers, from opening to acceptance: five bookings of which two compete for slot 7, then one booking that is
+ * accepted, and stays so when a rival comes, and last how the later edition counts. Prints what example.txt holds.
  */
 #include "filzhammer.h"
 
@@ -25,10 +25,10 @@ static void show_number(const char *what, uint32_t number)
     printf("%s: %" PRIu32 "\n", what, number);
 }
 
-static void open_ledger(uint16_t k, uint16_t a, uint16_t beta1, uint16_t beta2)
+static void open_ledger(uint16_t k, uint16_t a, uint16_t beta1, uint16_t beta2, uint16_t edition)
 {
     int64_t value;
-    taken(filz_open(ledger, FILZ_WORDS, k, a, beta1, beta2, &value));
+    taken(filz_open(ledger, FILZ_WORDS, k, a, beta1, beta2, edition, &value));
 }
 
 static void book_on_one(uint64_t name, uint16_t slot, uint64_t parent)
@@ -73,6 +73,17 @@ static void show(const char *title, uint64_t last)
     }
 }
 
+/* The counter of a slot stands among the lent words. */
+static unsigned counter(size_t slot)
+{
+    return ledger[FILZ_SLOTS_START + FILZ_SLOT_WORDS * slot + FILZ_SLOT_COUNTER];
+}
+
+static void show_counters(void)
+{
+    printf("counters of slots 0, 7, 8 and 9: %u %u %u %u\n", counter(0), counter(7), counter(8), counter(9));
+}
+
 int main(void)
 {
     const uint64_t rivals[2] = {1, 2};
@@ -81,7 +92,7 @@ int main(void)
 
     /* Three votes in a poll, of which two must be yes. */
     show_number("query before any opening", filz_query(ledger, FILZ_WORDS, 0, &value));
-    open_ledger(3, 2, 1, 2);
+    open_ledger(3, 2, 1, 2, FILZ_FIRST_EDITION);
     book_on_one(1, 7, 0);
     book_on_one(2, 7, 0); /* competes with 1 for slot 7 */
     book_on_one(3, 9, 1);
@@ -101,7 +112,7 @@ int main(void)
     show_number("lead of 5", filz_lead(ledger, FILZ_WORDS, 5, &value));
 
     /* One vote in a poll. A booking alone in its slot is accepted when its counter is above 1. */
-    open_ledger(1, 1, 1, 2);
+    open_ledger(1, 1, 1, 2, FILZ_FIRST_EDITION);
     book_on_one(1, 7, 0);
     book_on_one(2, 8, 1);
     poll_one(1, FILZ_YES);
@@ -114,5 +125,22 @@ int main(void)
     show("3 came for the slot of 1", 3);
     poll_one(3, FILZ_YES);
     show("3 won its poll", 3);
+
+    /* The later edition: a counter of 1 is enough for beta1, and a failed poll clears those of the slots in its ancestry. */
+    open_ledger(1, 1, 1, 2, FILZ_LATER_EDITION);
+    book_on_one(1, 7, 0);
+    book_on_one(2, 8, 1);
+    book_on_one(3, 9, 2);
+    poll_one(1, FILZ_YES);
+    show("the later edition, 1 won", 3);
+    show_counters();
+    poll_one(3, FILZ_YES);
+    show("3 won, which rests on 2 and 1", 3);
+    show_counters();
+    poll_one(2, FILZ_NO);
+    show("2 lost", 3);
+    show_counters();
+    show_number("open with edition 2", filz_open(ledger, FILZ_WORDS, 1, 1, 1, 2, 2, &value));
+    show_counters();
     return 0;
 }

@@ -1,7 +1,8 @@
 /*
  * A day handed over: one station writes its ledger as a day file, and a neighbour reads it and goes on. Then the same file with
- * a byte changed, too short and too long: which are good, and that the others change nothing. Last a day of which every word
- * comes back but the marks, because a rival was booked after an acceptance. Prints what handover.txt holds.
+ * a byte changed, too short and too long: which are good, and that the others change nothing. Then the same day with the later
+ * edition. Last a day of which every word comes back but the marks, because a rival was booked after an acceptance. Prints what
+ * handover.txt holds.
  */
 #include "filzhammer.h"
 
@@ -14,10 +15,11 @@ static uint16_t ours[FILZ_WORDS];
 static uint16_t theirs[FILZ_WORDS];
 static uint16_t before[FILZ_WORDS]; /* their words as they were */
 
-/* The file of the example, and room for it with a byte behind. docs/DAYFILE.md explains its bytes. */
+/* The file of the example with either edition, and room for it with a byte behind. docs/DAYFILE.md explains its bytes. */
 #define LENGTH 88
+#define LATER_LENGTH 90
 static uint8_t file[FILZ_FILE_MOST];
-static uint8_t copy[LENGTH + 1];
+static uint8_t copy[LATER_LENGTH + 1];
 
 /* For the calls that this program knows to be taken. */
 static void taken(uint32_t number)
@@ -36,11 +38,11 @@ static void poll_three(uint16_t *ws, uint64_t name, uint8_t first, uint8_t secon
 }
 
 /* The example of README.md, with the first of its polls or with all four. */
-static void make_example(uint16_t *ws, int is_polled)
+static void make_example(uint16_t *ws, uint16_t edition, int is_polled)
 {
     const uint64_t genesis[1] = {0}, one[1] = {1}, both[2] = {1, 2};
     int64_t value;
-    taken(filz_open(ws, FILZ_WORDS, 3, 2, 1, 2, &value));
+    taken(filz_open(ws, FILZ_WORDS, 3, 2, 1, 2, edition, &value));
     taken(filz_book(ws, FILZ_WORDS, 1, 7, genesis, 1, &value));
     taken(filz_book(ws, FILZ_WORDS, 2, 7, genesis, 1, &value));
     taken(filz_book(ws, FILZ_WORDS, 3, 9, one, 1, &value));
@@ -86,14 +88,14 @@ static void show_readings(uint64_t name)
 static void hand_over(void)
 {
     size_t length;
-    make_example(ours, 0);
+    make_example(ours, FILZ_FIRST_EDITION, 0);
     length = write_day(ours);
     memset(theirs, 0xee, sizeof theirs); /* any words will do */
     printf("after one poll: %zu bytes, read with %" PRIu32 "\n", length, read_day(file, length));
     printf("the same words: %s\n", memcmp(ours, theirs, sizeof ours) == 0 ? "yes" : "no");
     for (uint64_t name = 0; name <= 4; name++)
         show_readings(name);
-    make_example(ours, 1);
+    make_example(ours, FILZ_FIRST_EDITION, 1);
     poll_three(theirs, 3, FILZ_NO, FILZ_NO, FILZ_NO); /* other votes, and the same outcomes */
     poll_three(theirs, 4, FILZ_YES, FILZ_YES, FILZ_NO);
     poll_three(theirs, 1, FILZ_YES, FILZ_YES, FILZ_YES);
@@ -150,6 +152,50 @@ static void change_length(void)
     printf("the same words: %s\n", memcmp(ours, theirs, sizeof ours) == 0 ? "yes" : "no");
 }
 
+static void show_counters(void)
+{
+    const uint16_t *entries = theirs + FILZ_SLOTS_START;
+    printf("counters of slots 0 and 7: %u %u\n", (unsigned)entries[FILZ_SLOT_COUNTER],
+           (unsigned)entries[FILZ_SLOT_WORDS * 7 + FILZ_SLOT_COUNTER]);
+}
+
+/* Two bytes of the file with the later edition changed. */
+static void change_later(const char *what, size_t at, uint8_t high, uint8_t low)
+{
+    memcpy(copy, file, LATER_LENGTH);
+    copy[at] = high;
+    copy[at + 1] = low;
+    printf("%s: %" PRIu32 "\n", what, read_day(copy, LATER_LENGTH));
+}
+
+/* The example with the later edition, whose file has one number more; and without that number, as the first edition's. */
+static void later_edition(void)
+{
+    size_t length, refused = 0;
+    make_example(ours, FILZ_LATER_EDITION, 1);
+    length = write_day(ours);
+    printf("the later edition: %zu bytes, read with %" PRIu32 "\n", length, read_day(file, length));
+    printf("the same words: %s\n", memcmp(ours, theirs, sizeof ours) == 0 ? "yes" : "no");
+    show_counters();
+    change_later("edition 0", 10, 0, 0);
+    change_later("edition 2", 10, 0, 2);
+    change_later("edition 257", 10, 1, 1);
+    change_later("four numbers for a setting", 0, 0, 4);
+    change_later("six numbers for a setting", 0, 0, 6);
+    for (size_t bytes = 0; bytes < LATER_LENGTH; bytes++)
+        refused += read_day(file, bytes) == FILZ_BAD_FILE;
+    printf("shorter files refused: %zu\n", refused);
+    memcpy(copy, file, LATER_LENGTH);
+    copy[LATER_LENGTH] = 0;
+    printf("a byte more: %" PRIu32 "\n", read_day(copy, LATER_LENGTH + 1));
+    show_counters();
+    memcpy(copy, file, 10);
+    copy[1] = 4;
+    memcpy(copy + 10, file + 12, LATER_LENGTH - 12);
+    printf("four numbers, and no edition: %" PRIu32 "\n", read_day(copy, LENGTH));
+    show_counters();
+}
+
 static void book_on_one(uint16_t *ws, uint64_t name, uint16_t slot, uint64_t parent)
 {
     int64_t value;
@@ -187,7 +233,7 @@ static void late_rival(void)
 {
     size_t length, marks = 0, others = 0;
     int64_t value;
-    taken(filz_open(ours, FILZ_WORDS, 1, 1, 1, 2, &value));
+    taken(filz_open(ours, FILZ_WORDS, 1, 1, 1, 2, FILZ_FIRST_EDITION, &value));
     book_on_one(ours, 1, 7, 0);
     book_on_one(ours, 2, 8, 1);
     poll_one(ours, 1);
@@ -224,6 +270,7 @@ int main(void)
         return 1;
     change_bytes();
     change_length();
+    later_edition();
     late_rival();
     return 0;
 }

@@ -35,7 +35,7 @@ static void stop(const char *why)
 static void open_ledger(void)
 {
     int64_t value;
-    if (filz_open(ledger, FILZ_WORDS, 3, 2, 1, 2, &value) != FILZ_TAKEN)
+    if (filz_open(ledger, FILZ_WORDS, 3, 2, 1, 2, FILZ_FIRST_EDITION, &value) != FILZ_TAKEN)
         stop("the ledger was not opened");
 }
 

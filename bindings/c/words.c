@@ -1,7 +1,8 @@
 /*
  * Where each word stands: after the run below, after its day file was written and an index built, after refused calls and after
  * that file was read into other words, every word of the workspace is the one worked out by hand, at the place that the header
- * names; and so it is after a second run, in which a booking is accepted. Prints nothing and ends with 0 if that is so.
+ * names; so it is after the same run with the later edition, and after another, in which a booking is accepted. Prints nothing
+ * and ends with 0 if that is so.
  */
 #include "filzhammer.h"
 
@@ -12,11 +13,12 @@
 static uint16_t ws[FILZ_WORDS];
 static uint16_t expected[FILZ_WORDS];
 
-/* The day file of the run, and how long it is: day_file.txt shows its bytes. */
+/* The day file of the run, and how long it is with either edition: day_file.txt shows its bytes. */
 #define FILE_BYTES 88
+#define LATER_FILE_BYTES 90
 static uint8_t file[FILZ_FILE_MOST];
 
-static void expect_header(uint16_t n, uint16_t k, uint16_t a, uint16_t beta1, uint16_t beta2, uint16_t p)
+static void expect_header(uint16_t n, uint16_t k, uint16_t a, uint16_t beta1, uint16_t beta2, uint16_t p, uint16_t edition)
 {
     expected[FILZ_HEADER_N] = n;
     expected[FILZ_HEADER_K] = k;
@@ -24,6 +26,7 @@ static void expect_header(uint16_t n, uint16_t k, uint16_t a, uint16_t beta1, ui
     expected[FILZ_HEADER_BETA1] = beta1;
     expected[FILZ_HEADER_BETA2] = beta2;
     expected[FILZ_HEADER_P] = p;
+    expected[FILZ_HEADER_EDITION] = edition;
 }
 
 /* A booking whose name fits one word, with at most two parents. */
@@ -59,13 +62,13 @@ static void expect_no_bookings(void)
 }
 
 /* One opening, four bookings and four polls: the sum of their numbers, which is 0 if all are taken. */
-static uint32_t run(void)
+static uint32_t run(uint16_t edition)
 {
     const uint64_t genesis[1] = {0}, one[1] = {1}, both[2] = {1, 2};
     const uint8_t two[3] = {FILZ_YES, FILZ_YES, FILZ_NO}, few[3] = {FILZ_YES, FILZ_SILENT, FILZ_SILENT};
     const uint8_t all[3] = {FILZ_YES, FILZ_YES, FILZ_YES}, most[3] = {FILZ_YES, FILZ_YES, FILZ_SILENT};
     int64_t value;
-    uint32_t sum = filz_open(ws, FILZ_WORDS, 3, 2, 1, 2, &value);
+    uint32_t sum = filz_open(ws, FILZ_WORDS, 3, 2, 1, 2, edition, &value);
     sum += filz_book(ws, FILZ_WORDS, 1, 7, genesis, 1, &value);
     sum += filz_book(ws, FILZ_WORDS, 2, 7, genesis, 1, &value);
     sum += filz_book(ws, FILZ_WORDS, 3, 9, one, 1, &value);
@@ -77,10 +80,10 @@ static uint32_t run(void)
     return sum;
 }
 
-/* The words of that run. */
+/* The words of that run, with the first edition. */
 static void expect_run(void)
 {
-    expect_header(5, 3, 2, 1, 2, 4);
+    expect_header(5, 3, 2, 1, 2, 4, FILZ_FIRST_EDITION);
     expect_record(0, 0, 0, FILZ_NONE, FILZ_NONE, 1, 3, 0, 1);
     expect_record(1, 1, 7, 0, FILZ_NONE, 2, 2, 4, 0);
     expect_record(2, 2, 7, 0, FILZ_NONE, 2, 2, 1, 0);
@@ -93,13 +96,25 @@ static void expect_run(void)
     expect_entry(10, 4, 4, 1, 1);
 }
 
+/*
+ * And with the later one. The poll of 3 fails, and clears slots 0, 7 and 9; so slot 0 counts the polls of 4 and 1 alone. Slot 7
+ * has another last with each raise after that, and the raise by which it comes is counted.
+ */
+static void expect_later_run(void)
+{
+    expect_run();
+    expect_header(5, 3, 2, 1, 2, 4, FILZ_LATER_EDITION);
+    expect_entry(0, 0, 0, 2, 1);
+    expect_entry(7, 2, 1, 1, 2);
+}
+
 /* One opening, two bookings, a poll of each, which accepts the first, and a rival for it: the sum of their numbers. */
 static uint32_t run_accepted(void)
 {
     const uint64_t genesis[1] = {0}, one[1] = {1};
     const uint8_t yes[1] = {FILZ_YES};
     int64_t value;
-    uint32_t sum = filz_open(ws, FILZ_WORDS, 1, 1, 1, 2, &value);
+    uint32_t sum = filz_open(ws, FILZ_WORDS, 1, 1, 1, 2, FILZ_FIRST_EDITION, &value);
     sum += filz_book(ws, FILZ_WORDS, 1, 7, genesis, 1, &value);
     sum += filz_book(ws, FILZ_WORDS, 2, 255, one, 1, &value);
     sum += filz_poll(ws, FILZ_WORDS, 1, yes, 1, &value);
@@ -111,7 +126,7 @@ static uint32_t run_accepted(void)
 static void expect_accepted(void)
 {
     memset(expected, 0, sizeof expected);
-    expect_header(4, 1, 1, 1, 2, 2);
+    expect_header(4, 1, 1, 1, 2, 2, FILZ_FIRST_EDITION);
     expect_record(0, 0, 0, FILZ_NONE, FILZ_NONE, 1, 2, 0, 1);
     expect_record(1, 1, 7, 0, FILZ_NONE, 2, 2, 1, 1);
     expect_record(2, 2, 255, 1, FILZ_NONE, 2, 1, 2, 0);
@@ -122,11 +137,11 @@ static void expect_accepted(void)
     expect_entry(255, 2, 2, 1, 1);
 }
 
-/* The day file, written: 0 if that is taken, with its bytes. */
-static int written(void)
+/* The day file, written: 0 if that is taken, with so many bytes. */
+static int written(int64_t bytes)
 {
     int64_t value = 77;
-    return filz_write_first(ws, FILZ_WORDS, file, sizeof file, &value) != FILZ_TAKEN || value != FILE_BYTES;
+    return filz_write_first(ws, FILZ_WORDS, file, sizeof file, &value) != FILZ_TAKEN || value != bytes;
 }
 
 /* An index, built, with the newest booking entered once more, and asked for it: 0 if all are taken, with number 4 found. */
@@ -140,12 +155,12 @@ static int indexed(void)
 }
 
 /* The same file, read into words of which none is as it was: 0 if that is taken, with value 0. */
-static int read_again(void)
+static int read_again(size_t bytes)
 {
     int64_t value = 77;
     for (size_t place = 0; place < FILZ_WORDS; place++)
         ws[place] ^= 21845;
-    return filz_read_first(ws, FILZ_WORDS, file, FILE_BYTES, &value) != FILZ_TAKEN || value != 0;
+    return filz_read_first(ws, FILZ_WORDS, file, bytes, &value) != FILZ_TAKEN || value != 0;
 }
 
 /* Is every word the one worked out? */
@@ -167,9 +182,10 @@ static int refused(void)
     const uint8_t votes[3] = {FILZ_YES, FILZ_YES, FILZ_YES};
     uint8_t out[FILE_BYTES - 1];
     static uint16_t zeros[FILZ_CELLS]; /* no cell is empty */
-    int64_t open_value = 77, book_value = 77, poll_value = 77, lead_value = 77, write_value = 77, read_value = 77;
-    int64_t build_value = 77, enter_value = 77, find_value = 77;
-    return filz_open(ws, FILZ_WORDS, 2, 1, 1, 2, &open_value) != FILZ_BAD_SETTING || open_value != 0
+    int64_t open_value = 77, edition_value = 77, book_value = 77, poll_value = 77, lead_value = 77, write_value = 77;
+    int64_t read_value = 77, build_value = 77, enter_value = 77, find_value = 77;
+    return filz_open(ws, FILZ_WORDS, 2, 1, 1, 2, FILZ_FIRST_EDITION, &open_value) != FILZ_BAD_SETTING || open_value != 0
+        || filz_open(ws, FILZ_WORDS, 3, 2, 1, 2, 2, &edition_value) != FILZ_BAD_SETTING || edition_value != 0
         || filz_book(ws, FILZ_WORDS, 5, 9, unknown, 1, &book_value) != FILZ_UNKNOWN_PARENT || book_value != 0
         || filz_poll(ws, FILZ_WORDS, 1, votes, 3, &poll_value) != FILZ_NOT_WAITING || poll_value != 0
         || filz_lead(ws, FILZ_WORDS, 9, &lead_value) != FILZ_UNKNOWN_NAME || lead_value != 0
@@ -183,11 +199,11 @@ static int refused(void)
 int main(void)
 {
     expect_run();
-    if (run() != FILZ_TAKEN) {
+    if (run(FILZ_FIRST_EDITION) != FILZ_TAKEN) {
         fprintf(stderr, "a call was refused\n");
         return 1;
     }
-    if (written() != 0) {
+    if (written(FILE_BYTES) != 0) {
         fprintf(stderr, "the day file was refused or has another length\n");
         return 1;
     }
@@ -201,8 +217,22 @@ int main(void)
     }
     if (!is_expected())
         return 1;
-    if (read_again() != 0) {
+    if (read_again(FILE_BYTES) != 0) {
         fprintf(stderr, "the day file was not read\n");
+        return 1;
+    }
+    if (!is_expected())
+        return 1;
+
+    expect_later_run();
+    if (run(FILZ_LATER_EDITION) != FILZ_TAKEN) {
+        fprintf(stderr, "a call with the later edition was refused\n");
+        return 1;
+    }
+    if (!is_expected())
+        return 1;
+    if (written(LATER_FILE_BYTES) != 0 || read_again(LATER_FILE_BYTES) != 0) {
+        fprintf(stderr, "the day file with the later edition was refused or has another length\n");
         return 1;
     }
     if (!is_expected())

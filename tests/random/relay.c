@@ -35,7 +35,7 @@ struct asked {
     uint64_t count;      /* of parents or votes */
     uint64_t room;       /* bytes of the buffer or the file */
     uint64_t cells;      /* of the index */
-    uint16_t numbers[4]; /* the slot, or the setting */
+    uint16_t numbers[8]; /* the slot, or the setting with its edition; the others are 0 */
 };
 
 struct told {
@@ -130,7 +130,7 @@ static uint32_t call(const struct asked *asked, uint16_t *ws, const void *list, 
     const uint16_t *n = asked->numbers;
     switch (asked->kind) {
     case OPEN:
-        return filz_open(ws, words, n[0], n[1], n[2], n[3], value);
+        return filz_open(ws, words, n[0], n[1], n[2], n[3], n[4], value);
     case BOOK:
         return filz_book(ws, words, name, n[0], (const uint64_t *)list, asked->count, value);
     case POLL:

@@ -15,6 +15,7 @@ extern "C" {
         a: u16,
         beta1: u16,
         beta2: u16,
+        edition: u16,
         value: *mut i64,
     ) -> u32;
     fn filz_book(
@@ -105,9 +106,27 @@ fn write_cells(indexing: Indexing, ws: &[u16], index: &mut [u16]) -> Result<i64,
     })
 }
 
-pub fn open(ws: &mut [u16], k: u16, a: u16, beta1: u16, beta2: u16) -> Result<i64, Refusal> {
+pub fn open(
+    ws: &mut [u16],
+    k: u16,
+    a: u16,
+    beta1: u16,
+    beta2: u16,
+    edition: u16,
+) -> Result<i64, Refusal> {
     // SAFETY: see the top of this file.
-    ask(|value| unsafe { filz_open(ws.as_mut_ptr(), ws.len(), k, a, beta1, beta2, value) })
+    ask(|value| unsafe {
+        filz_open(
+            ws.as_mut_ptr(),
+            ws.len(),
+            k,
+            a,
+            beta1,
+            beta2,
+            edition,
+            value,
+        )
+    })
 }
 
 pub fn book(ws: &mut [u16], name: u64, slot: u16, parents: &[u64]) -> Result<i64, Refusal> {

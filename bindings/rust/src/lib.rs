@@ -10,7 +10,7 @@
 //! use filzhammer::{accepted, book, open, poll, query, Refusal, Setting, WORDS, YES};
 //!
 //! let mut ledger = [0u16; WORDS];
-//! open(&mut ledger, Setting { k: 1, a: 1, beta1: 1, beta2: 2 })?;
+//! open(&mut ledger, Setting { k: 1, a: 1, beta1: 1, beta2: 2, edition: 0 })?;
 //! book(&mut ledger, 1, 7, &[0])?; // name 1, slot 7, on the genesis
 //! book(&mut ledger, 2, 8, &[1])?;
 //! poll(&mut ledger, 1, &[YES])?;
@@ -20,6 +20,34 @@
 //! assert_eq!(query(&ledger, 3), Err(Refusal::UnknownName));
 //! book(&mut ledger, 3, 7, &[0])?; // a rival that comes too late
 //! assert_eq!(accepted(&ledger, 1), Ok(1));
+//! # Ok::<(), Refusal>(())
+//! ```
+//!
+//! # Editions
+//!
+//! The rules have two editions, and a ledger goes by the one that its [`Setting`] names, [`Setting::FIRST_EDITION`] or
+//! [`Setting::LATER_EDITION`]. They differ in three places. Where another booking becomes a slot's last, the first edition sets
+//! the slot's counter to 0 and the later one to 1. For an acceptance the first wants a counter above `beta1` or `beta2`, and the
+//! later one a counter of at least that. And a failed poll leaves all counters in the first edition, while in the later one it
+//! sets those of all slots in its ancestry to 0. Confidence and preference are the same in both. Stations whose ledgers are to
+//! agree take the same edition.
+//!
+//! ```
+//! use filzhammer::{accepted, book, open, poll, Refusal, Setting, NO, WORDS, YES};
+//!
+//! let mut ledger = [0u16; WORDS];
+//! let setting = Setting { k: 1, a: 1, beta1: 1, beta2: 2, edition: Setting::LATER_EDITION };
+//! open(&mut ledger, setting)?;
+//! book(&mut ledger, 1, 7, &[0])?;
+//! book(&mut ledger, 2, 8, &[1])?;
+//! poll(&mut ledger, 1, &[YES])?;
+//! assert_eq!(accepted(&ledger, 1), Ok(1)); // one success is at least beta1
+//! let counter = 6664 + 4 * 7 + 2; // of slot 7
+//! assert_eq!(ledger[counter], 1);
+//! poll(&mut ledger, 2, &[NO])?; // which fails, and rests on 1
+//! assert_eq!(ledger[counter], 0);
+//! assert_eq!(accepted(&ledger, 1), Ok(1)); // who is accepted stays so
+//! assert_eq!(open(&mut ledger, Setting { edition: 2, ..setting }), Err(Refusal::BadSetting));
 //! # Ok::<(), Refusal>(())
 //! ```
 //!
@@ -54,15 +82,15 @@
 //! [`DamagedSlot`](Refusal::DamagedSlot) that only slot entries do. The last two carry a row: the lowest record's number, or the
 //! lowest slot, that breaks a rule. That row doesn't fit the others; the word that was hit may stand elsewhere.
 //!
-//! The header has 8 words, each of the 512 records 13 and each of the 256 slot entries 4. The last word of a record is its mark,
-//! 1 if the booking is accepted.
+//! The header has 8 words, each of the 512 records 13 and each of the 256 slot entries 4. The last but one of the header is the
+//! edition. The last word of a record is its mark, 1 if the booking is accepted.
 //!
 //! ```
 //! use filzhammer::{book, open, poll, query, Refusal, Setting, WORDS, YES};
 //!
 //! let mut ledger = [0u16; WORDS];
 //! assert_eq!(query(&ledger, 0), Err(Refusal::DamagedHeader)); // never opened: n is 0
-//! open(&mut ledger, Setting { k: 1, a: 1, beta1: 1, beta2: 2 })?;
+//! open(&mut ledger, Setting { k: 1, a: 1, beta1: 1, beta2: 2, edition: 0 })?;
 //! book(&mut ledger, 1, 7, &[0])?;
 //! book(&mut ledger, 2, 8, &[1])?;
 //! poll(&mut ledger, 2, &[YES])?; // the one chit, so 0, 1 and 2 have confidence 1
@@ -96,7 +124,7 @@
 //! [`write_first`] writes today's ledger as bytes, to hand over to a neighbour: three sections, each after its count. A number
 //! takes two bytes and a name eight, the highest byte first.
 //!
-//! 1. 4, then k, a, beta1 and beta2.
+//! 1. 4, then k, a, beta1 and beta2; or, with the later edition, 5, then these four and the edition, 1.
 //! 2. How many bookings there are beside the genesis, then for each, from number 1 on: its name, its slot, how many parents it
 //!    has, and the parents' numbers.
 //! 3. How many polls were taken, then for each, in that order: the booking's number, and 1 if the poll succeeded or 0.
@@ -105,7 +133,7 @@
 //! use filzhammer::{book, open, poll, write_first, Refusal, Setting, FILE_MOST, NO, WORDS, YES};
 //!
 //! let mut ledger = [0u16; WORDS];
-//! open(&mut ledger, Setting { k: 1, a: 1, beta1: 1, beta2: 2 })?;
+//! open(&mut ledger, Setting { k: 1, a: 1, beta1: 1, beta2: 2, edition: 0 })?;
 //! book(&mut ledger, 0x0102_0304_0506_0708, 7, &[0])?; // number 1
 //! book(&mut ledger, 1, 255, &[0x0102_0304_0506_0708, 0])?; // number 2
 //! poll(&mut ledger, 1, &[YES])?; // of number 2
@@ -138,7 +166,7 @@
 //! use filzhammer::{book, confidence, open, poll, read_first, write_first, Refusal, Setting, FILE_MOST, WORDS, YES};
 //!
 //! let mut ours = [0u16; WORDS];
-//! open(&mut ours, Setting { k: 1, a: 1, beta1: 1, beta2: 2 })?;
+//! open(&mut ours, Setting { k: 1, a: 1, beta1: 1, beta2: 2, edition: 0 })?;
 //! book(&mut ours, 1, 7, &[0])?;
 //! book(&mut ours, 2, 8, &[1])?;
 //! poll(&mut ours, 2, &[YES])?;
@@ -163,7 +191,7 @@
 //! use filzhammer::{accepted, book, open, poll, read_first, write_first, Refusal, Setting, FILE_MOST, WORDS, YES};
 //!
 //! let mut ours = [0u16; WORDS];
-//! open(&mut ours, Setting { k: 1, a: 1, beta1: 1, beta2: 2 })?;
+//! open(&mut ours, Setting { k: 1, a: 1, beta1: 1, beta2: 2, edition: 0 })?;
 //! book(&mut ours, 1, 7, &[0])?;
 //! book(&mut ours, 2, 8, &[1])?;
 //! poll(&mut ours, 1, &[YES])?;
@@ -188,7 +216,7 @@
 //! use filzhammer::{book, index_build, index_enter, index_find, open, poll, Refusal, Setting, CELLS, WORDS, YES};
 //!
 //! let (mut ledger, mut index) = ([0u16; WORDS], [0u16; CELLS]);
-//! open(&mut ledger, Setting { k: 1, a: 1, beta1: 1, beta2: 2 })?;
+//! open(&mut ledger, Setting { k: 1, a: 1, beta1: 1, beta2: 2, edition: 0 })?;
 //! index_build(&ledger, &mut index)?; // after each opening, and after each day file that is read
 //! book(&mut ledger, 1, 7, &[0])?;
 //! assert_eq!(index_find(&ledger, &index, 1), Err(Refusal::UnknownName)); // booked, and not entered yet
@@ -220,12 +248,12 @@ pub const WORDS: usize = 7688;
 /// How many bookings a ledger holds, with the genesis.
 pub const BOOKINGS: usize = 512;
 
-/// How many bytes the shortest day file has, that of the genesis alone.
+/// How many bytes the shortest day file has, that of the genesis alone, with the first edition.
 pub const FILE_LEAST: usize = 14;
 
-/// How many bytes the longest day file has, that of a full ledger with as many parents as there can be and all polls. A
-/// buffer of so many bytes has room for every file.
-pub const FILE_MOST: usize = 12266;
+/// How many bytes the longest day file has, that of a full ledger with as many parents as there can be and all polls, with the
+/// later edition. A buffer of so many bytes has room for every file.
+pub const FILE_MOST: usize = 12268;
 
 /// How many cells an index has.
 pub const CELLS: usize = 1024;
@@ -239,27 +267,39 @@ pub const NO: u8 = 255;
 /// No answer came. It counts neither way, so it helps a poll no more than [`NO`] does.
 pub const SILENT: u8 = 0;
 
-/// The setting of a ledger. It is good if 1 ≤ k ≤ 64, a ≤ k < 2 × a, and 1 ≤ beta1 ≤ beta2 ≤ 510.
+/// The setting of a ledger. It is good if 1 ≤ k ≤ 64, a ≤ k < 2 × a, 1 ≤ beta1 ≤ beta2 ≤ 510, and edition ≤ 1.
 #[derive(Clone, Copy, Debug, PartialEq, Eq)]
 pub struct Setting {
     /// How many votes a poll has.
     pub k: u16,
     /// How many of them must be yes.
     pub a: u16,
-    /// A booking that is alone in its slot and rests on accepted parents is accepted when the slot's counter is above this.
+    /// A booking that is alone in its slot and rests on accepted parents is accepted when the slot's counter is above this, or,
+    /// with the later edition, at least this.
     pub beta1: u16,
-    /// Any booking that is preferred and last in its slot is accepted when the slot's counter is above this and no rival is
-    /// accepted.
+    /// Any booking that is preferred and last in its slot is accepted when the slot's counter is above this, or, with the later
+    /// edition, at least this, and no rival is accepted.
     pub beta2: u16,
+    /// Which [edition](crate#editions) of the rules the ledger goes by: [`FIRST_EDITION`](Setting::FIRST_EDITION) or
+    /// [`LATER_EDITION`](Setting::LATER_EDITION).
+    pub edition: u16,
 }
 
 impl Setting {
-    /// The setting of the paper that the rules come from.
+    /// The first edition of the rules.
+    pub const FIRST_EDITION: u16 = 0;
+
+    /// The later edition of the rules.
+    pub const LATER_EDITION: u16 = 1;
+
+    /// The setting of the paper that the rules come from, with the first edition. With the later one it is
+    /// `Setting { edition: Setting::LATER_EDITION, ..Setting::PAPER }`.
     pub const PAPER: Setting = Setting {
         k: 10,
         a: 8,
         beta1: 11,
         beta2: 150,
+        edition: Setting::FIRST_EDITION,
     };
 }
 
@@ -267,8 +307,14 @@ impl Setting {
 ///
 /// Refuses [`WrongLength`](Refusal::WrongLength), [`BadSetting`](Refusal::BadSetting), in this order.
 pub fn open(ws: &mut [u16], setting: Setting) -> Result<(), Refusal> {
-    let Setting { k, a, beta1, beta2 } = setting;
-    face::open(ws, k, a, beta1, beta2).map(drop)
+    let Setting {
+        k,
+        a,
+        beta1,
+        beta2,
+        edition,
+    } = setting;
+    face::open(ws, k, a, beta1, beta2, edition).map(drop)
 }
 
 /// Books `name` for `slot` on one to four parents, given by their names. It waits for its poll, with confidence 0, and is
@@ -285,8 +331,9 @@ pub fn book(ws: &mut [u16], name: u64, slot: u16, parents: &[u64]) -> Result<(),
 /// Enters the votes of a completed poll of a waiting booking, [`YES`], [`NO`] or [`SILENT`] for each station asked.
 ///
 /// With at least `a` yes votes the whole ancestry gains one confidence each, and those that are then strictly ahead of their
-/// slot's preferred booking take its place. With fewer the booking only counts as polled. Either way, all bookings that then
-/// meet the rule of [`accepted`] are.
+/// slot's preferred booking take its place. With fewer the booking only counts as polled, and with the later
+/// [edition](crate#editions) the counters of all slots in the ancestry become 0. Either way, all bookings that then meet the
+/// rule of [`accepted`] are.
 ///
 /// Refuses [`WrongLength`](Refusal::WrongLength), [`DamagedHeader`](Refusal::DamagedHeader),
 /// [`DamagedRecord`](Refusal::DamagedRecord), [`DamagedSlot`](Refusal::DamagedSlot),
@@ -310,8 +357,8 @@ pub fn query(ws: &[u16], name: u64) -> Result<i64, Refusal> {
 /// The genesis is. After each taken poll, one that fails too, the bookings are looked at in the order of their numbers, and each
 /// that meets a rule becomes accepted if no other of its slot is: it is alone in its slot, its parents are accepted (perhaps
 /// just now) and the slot's counter is above `beta1`; or it is both preferred and last in its slot and the counter is above
-/// `beta2`. It stays accepted until the next taken [`open`] or [`read_first`], whoever comes for its slot. Refuses as [`query`]
-/// does.
+/// `beta2`. With the later [edition](crate#editions) a counter of at least `beta1`, or `beta2`, is enough. It stays accepted
+/// until the next taken [`open`] or [`read_first`], whoever comes for its slot. Refuses as [`query`] does.
 pub fn accepted(ws: &[u16], name: u64) -> Result<i64, Refusal> {
     face::accepted(ws, name)
 }
@@ -352,7 +399,7 @@ pub fn write_first(ws: &[u16], out: &mut [u8]) -> Result<usize, Refusal> {
 /// have made comes back.
 ///
 /// A file is good if [`write_first`] could have written it after calls that were taken. It begins with 4 and a good
-/// [`Setting`]. It has at most 511 bookings, each with a name that is not 0 and that no earlier one has, a slot from 1 to 255,
+/// [`Setting`] of the first edition, or with 5 and one of the later. It has at most 511 bookings, each with a name that is not 0 and that no earlier one has, a slot from 1 to 255,
 /// and one to four parents, all of them lower numbers than its own and none twice. Each poll is of a booking other than the
 /// genesis, which no earlier poll is of, and its outcome is 0 or 1. No byte is missing, and none follows: lend as many bytes as
 /// the file has, and not the rest of a buffer.

@@ -47,6 +47,7 @@ const A: usize = 2;
 const BETA1: usize = 3;
 const BETA2: usize = 4;
 const P: usize = 5;
+const EDITION: usize = 6;
 
 // Words of a record: where each stands.
 fn name(number: usize) -> usize {
@@ -140,14 +141,39 @@ fn each_rule_of_the_header() {
         (BETA2, 511),
         (P, 5),
         (P, NONE),
-        (6, 1),
+        (EDITION, 2),
+        (EDITION, 257),
+        (EDITION, NONE),
         (7, 1),
         (7, NONE),
     ] {
         damaged(&[(place, word)], Refusal::DamagedHeader);
     }
-    for (place, word) in [(K, 2), (A, 3), (BETA1, 2), (BETA2, 1), (BETA2, 510)] {
+    for (place, word) in [
+        (K, 2),
+        (A, 3),
+        (BETA1, 2),
+        (BETA2, 1),
+        (BETA2, 510),
+        (EDITION, 1),
+    ] {
         sound(&[(place, word)]);
+    }
+    damaged(&[(EDITION, 1), (7, 1)], Refusal::DamagedHeader);
+}
+
+/// With the later edition slots 0 and 7 have counter 1, and all else is as above.
+#[test]
+fn the_rules_are_the_same_with_the_later_edition() {
+    let later = || listed_by(LATER, 3);
+    assert_eq!(size(&later(), 0), Ok(1));
+    for (place, word) in [(EDITION, 2), (7, 1), (K, 4), (BETA2, 511), (P, 5)] {
+        all_refused(Refusal::DamagedHeader, &mut hit(later(), &[(place, word)]));
+    }
+    all_refused(record(3), &mut hit(later(), &[(slot(3), 0)]));
+    all_refused(entry(7), &mut hit(later(), &[(counter(7), 3)])); // above the number of chits
+    for (place, word) in [(EDITION, 0), (counter(7), 2), (counter(0), 0)] {
+        assert_eq!(size(&hit(later(), &[(place, word)]), 0), Ok(1));
     }
 }
 

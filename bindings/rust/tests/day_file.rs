@@ -52,6 +52,18 @@ fn the_file_of_the_examples_ledger() {
     writes(&mut listed(4), &LISTED);
 }
 
+/// One number more in the first section, and all else as it was.
+#[test]
+fn the_same_with_the_later_edition() {
+    let file = [&[0, 5], &LISTED[2..10], &[0, 1], &LISTED[10..]].concat();
+    assert_eq!(file.len(), 90);
+    writes(&mut listed_by(LATER, 4), &file);
+    writes(
+        &mut opened(LATER),
+        &[0, 5, 0, 3, 0, 2, 0, 1, 0, 2, 0, 1, 0, 0, 0, 0],
+    );
+}
+
 #[test]
 fn the_genesis_alone_has_the_shortest_file() {
     let file = [0, 4, 0, 3, 0, 2, 0, 1, 0, 2, 0, 0, 0, 0];
@@ -70,6 +82,7 @@ fn a_number_has_its_high_byte_first() {
         a: 33,
         beta1: 258,
         beta2: 510,
+        edition: 0,
     };
     writes(
         &mut opened(setting),
@@ -147,17 +160,20 @@ fn who_waits_has_no_poll() {
 fn the_longest_file() {
     let name = |number: u64| number.wrapping_mul(0x9e37_79b9_7f4a_7c15); // an odd factor, so no two are equal
     let slot = |number: u64| (number % 255 + 1) as u16;
-    let mut ws = opened(SETTING);
-    for number in 1..512 {
-        let parents: Vec<u64> = (0..number).rev().take(4).map(name).collect();
-        book(&mut ws, name(number), slot(number), &parents).unwrap();
-    }
-    for number in (1..512).rev() {
-        let votes = [YES, SILENT, if number % 3 == 0 { YES } else { NO }];
-        poll(&mut ws, name(number), &votes).unwrap();
-    }
+    let fill = |setting| {
+        let mut ws = opened(setting);
+        for number in 1..512 {
+            let parents: Vec<u64> = (0..number).rev().take(4).map(name).collect();
+            book(&mut ws, name(number), slot(number), &parents).unwrap();
+        }
+        for number in (1..512).rev() {
+            let votes = [YES, SILENT, if number % 3 == 0 { YES } else { NO }];
+            poll(&mut ws, name(number), &votes).unwrap();
+        }
+        ws
+    };
 
-    let mut file = vec![0, 4, 0, 3, 0, 2, 0, 1, 0, 2];
+    let mut file = vec![];
     let mut add = |number: u16| file.extend([(number >> 8) as u8, number as u8]);
     add(511);
     for number in 1..512 {
@@ -175,9 +191,13 @@ fn the_longest_file() {
         add(number);
         add((number % 3 == 0) as u16);
     }
-    assert_eq!(file.len(), 12_266);
-    assert_eq!(file.len(), FILE_MOST);
-    writes(&mut ws, &file);
+    let first = [&[0, 4, 0, 3, 0, 2, 0, 1, 0, 2][..], &file].concat();
+    assert_eq!(first.len(), 12_266);
+    writes(&mut fill(SETTING), &first);
+    let later = [&[0, 5, 0, 3, 0, 2, 0, 1, 0, 2, 0, 1][..], &file].concat();
+    assert_eq!(later.len(), 12_268);
+    assert_eq!(later.len(), FILE_MOST);
+    writes(&mut fill(LATER), &later);
 }
 
 // ---- what it does not carry
@@ -222,6 +242,7 @@ fn who_is_accepted_is_not_in_the_file() {
         a: 1,
         beta1: 1,
         beta2: 2,
+        edition: 0,
     };
     let file = [
         &[0, 4, 0, 1, 0, 1, 0, 1, 0, 2][..],
@@ -286,7 +307,7 @@ fn the_length_and_damage_come_first() {
     all_refused(Refusal::DamagedRecord(3), &mut ws);
     ws[8 + 13 * 2 + 12] = 2; // a mark is 0 or 1
     all_refused(Refusal::DamagedRecord(2), &mut ws);
-    ws[6] = 1; // a spare word of the header
+    ws[7] = 1; // the spare word of the header
     all_refused(Refusal::DamagedHeader, &mut ws);
     all_refused(Refusal::WrongLength, &mut ws[1..]);
 }

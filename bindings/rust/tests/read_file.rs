@@ -81,8 +81,10 @@ fn the_file_of_the_example() {
 #[test]
 fn what_was_written_is_read_back() {
     for polls in 0..=4 {
-        let ws = listed(polls);
-        makes(&written(&ws), &ws);
+        for setting in [SETTING, LATER] {
+            let ws = listed_by(setting, polls);
+            makes(&written(&ws), &ws);
+        }
     }
     let mut ws = [0; WORDS];
     open(&mut ws, Setting::PAPER).unwrap();
@@ -98,6 +100,7 @@ fn names_numbers_and_orders() {
         a: 3,
         beta1: 258,
         beta2: 510,
+        edition: 0,
     };
     open(&mut ws, setting).unwrap();
     book(&mut ws, 3, 255, &[0]).unwrap();
@@ -126,26 +129,29 @@ fn the_day_goes_on_after_reading() {
 /// 511 bookings after the genesis, with as many parents as they can have, all polled from the last to the first.
 #[test]
 fn the_longest_file() {
-    let mut ws = [0; WORDS];
-    open(&mut ws, SETTING).unwrap();
-    for name in 1..512u64 {
-        let parents: Vec<u64> = (0..name).rev().take(4).collect();
-        book(&mut ws, name, (name % 255 + 1) as u16, &parents).unwrap();
-    }
-    for name in (1..512).rev() {
-        let vote = if name % 3 == 0 { YES } else { NO };
-        poll(&mut ws, name, &[YES, SILENT, vote]).unwrap();
-    }
-    let file = written(&ws);
-    assert_eq!(file.len(), FILE_MOST);
-    makes(&file, &ws);
+    for (setting, length, count) in [(SETTING, FILE_MOST - 2, 10), (LATER, FILE_MOST, 12)] {
+        let mut ws = [0; WORDS];
+        open(&mut ws, setting).unwrap();
+        for name in 1..512u64 {
+            let parents: Vec<u64> = (0..name).rev().take(4).collect();
+            book(&mut ws, name, (name % 255 + 1) as u16, &parents).unwrap();
+        }
+        for name in (1..512).rev() {
+            let vote = if name % 3 == 0 { YES } else { NO };
+            poll(&mut ws, name, &[YES, SILENT, vote]).unwrap();
+        }
+        let file = written(&ws);
+        assert_eq!(file.len(), length);
+        makes(&file, &ws);
 
-    // One booking more, at the end of its section, with the count that is true then.
-    let polls = FILE_MOST - 2 - 4 * 511;
-    let more = [9, 0, 0, 0, 0, 0, 0, 0, 0, 1, 0, 1, 0, 0];
-    let mut longer = [&file[..polls], &more, &file[polls..]].concat();
-    longer[10..12].copy_from_slice(&[2, 0]);
-    bad([&longer, &[], &[]]);
+        // One booking more, at the end of its section, with the count that is true then.
+        let polls = length - 2 - 4 * 511;
+        let more = [9, 0, 0, 0, 0, 0, 0, 0, 0, 1, 0, 1, 0, 0];
+        let mut longer = [&file[..polls], &more, &file[polls..]].concat();
+        assert_eq!(longer[count..count + 2], [1, 255]);
+        longer[count..count + 2].copy_from_slice(&[2, 0]);
+        bad([&longer, &[], &[]]);
+    }
 }
 
 /// What no poll led to is not in a file, and is made by the rules.
@@ -173,6 +179,7 @@ fn rivals(before: usize, between: u64, last: u64) -> [u16; WORDS] {
         a: 1,
         beta1: 1,
         beta2: 2,
+        edition: 0,
     };
     let bookings = [
         (1, 7, 0),
@@ -230,6 +237,7 @@ fn an_acceptance_on_the_way_stays() {
         a: 1,
         beta1: 1,
         beta2: 2,
+        edition: 0,
     };
     open(&mut ws, setting).unwrap();
     for (name, slot, parent) in [(1, 7, 0), (2, 7, 0), (3, 8, 1), (4, 9, 1)] {
@@ -327,6 +335,27 @@ fn a_setting_of_another_count() {
     bad([&[0, 3, 0, 3, 0, 2, 0, 1], bookings, polls]);
     bad([&[4, 4, 0, 3, 0, 2, 0, 1, 0, 2], bookings, polls]);
     bad([NONE, bookings, polls]);
+}
+
+/// A fifth number is the edition, and 1: the first edition has no other file than that with four.
+#[test]
+fn a_setting_of_five_numbers() {
+    let [_, bookings, polls] = LISTED;
+    let five = |high: u8, low: u8| [0, 5, 0, 3, 0, 2, 0, 1, 0, 2, high, low];
+    good([&five(0, 1), bookings, polls]);
+    for (high, low) in [(0, 0), (0, 2), (0, 255), (1, 0), (1, 1), (255, 255)] {
+        bad([&five(high, low), bookings, polls]);
+    }
+    bad([&[0, 4, 0, 3, 0, 2, 0, 1, 0, 2, 0, 1], bookings, polls]);
+    bad([&[0, 6, 0, 3, 0, 2, 0, 1, 0, 2, 0, 1], bookings, polls]);
+    bad([&[0, 6, 0, 3, 0, 2, 0, 1, 0, 2, 0, 1, 0, 0], bookings, polls]);
+    bad([&[5, 5, 0, 3, 0, 2, 0, 1, 0, 2, 0, 1], bookings, polls]);
+    bad([&[0, 5, 0, 3, 0, 2, 0, 1, 0, 2, 0, 1], &[], &[]]);
+    bad([&[0, 5, 0, 3, 0, 2, 0, 1, 0, 2], &[], &[]]);
+    // the other numbers have the same limits
+    good([&[0, 5, 0, 64, 0, 33, 1, 254, 1, 254, 0, 1], NONE, NONE]);
+    bad([&[0, 5, 0, 64, 0, 32, 1, 254, 1, 254, 0, 1], NONE, NONE]);
+    bad([&[0, 5, 0, 64, 0, 33, 1, 254, 1, 255, 0, 1], NONE, NONE]);
 }
 
 #[test]
@@ -459,7 +488,24 @@ fn good_values(at: usize) -> Vec<u8> {
 
 #[test]
 fn every_value_of_every_byte() {
-    let file = example();
+    every_value(example(), good_values);
+}
+
+/// The same with the later edition: two bytes more, which have one good value, and so has the count before them.
+#[test]
+fn every_value_of_every_byte_with_the_later_edition() {
+    let [_, bookings, polls] = LISTED;
+    let later = [0, 5, 0, 3, 0, 2, 0, 1, 0, 2, 0, 1];
+    every_value([&later, bookings, polls].concat(), |at| match at {
+        0 | 1 | 10 | 11 => vec![later[at]],
+        2..=9 => good_values(at),
+        _ => good_values(at - 2),
+    });
+}
+
+/// Every other file of one changed byte is refused, and leaves the words.
+#[track_caller]
+fn every_value(file: Vec<u8>, good_values: impl Fn(usize) -> Vec<u8>) {
     let before = listed(1);
     for at in 0..file.len() {
         let values = good_values(at);

@@ -10,6 +10,7 @@ const SETTING: Setting = Setting {
     a: 2,
     beta1: 1,
     beta2: 2,
+    edition: 0,
 };
 
 /// A ledger with the names 1 and 2, of which 2 was polled.
@@ -149,13 +150,28 @@ fn r3_bad_setting() {
         (3, 2, 2, 2),
         (3, 2, 510, 510),
     ];
-    for (k, a, beta1, beta2) in bad {
-        let setting = Setting { k, a, beta1, beta2 };
+    let opens_refused = |setting| {
         refused(Refusal::BadSetting, &mut ledger(), |ws| open(ws, setting));
         refused(Refusal::BadSetting, &mut [9; WORDS], |ws| open(ws, setting));
+    };
+    let setting = |(k, a, beta1, beta2), edition| Setting {
+        k,
+        a,
+        beta1,
+        beta2,
+        edition,
+    };
+    for edition in [0, 1] {
+        for numbers in bad {
+            opens_refused(setting(numbers, edition));
+        }
+        for numbers in good {
+            open(&mut [9; WORDS], setting(numbers, edition)).unwrap();
+        }
     }
-    for (k, a, beta1, beta2) in good {
-        open(&mut [9; WORDS], Setting { k, a, beta1, beta2 }).unwrap();
+    for edition in [2, 3, 256, 257, 65535] {
+        opens_refused(setting(good[0], edition));
+        opens_refused(setting(bad[0], edition));
     }
 }
 

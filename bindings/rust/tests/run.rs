@@ -1,4 +1,5 @@
-//! The worked run of the rules and its cases, with every expectation worked out by hand.
+//! The worked run of the rules and its cases, with every expectation worked out by hand. It goes by the first edition; the later
+//! one has `editions.rs`.
 use filzhammer::*;
 
 const ONE_VOTE: Setting = Setting {
@@ -6,6 +7,7 @@ const ONE_VOTE: Setting = Setting {
     a: 1,
     beta1: 1,
     beta2: 2,
+    edition: 0,
 };
 
 /// Three votes in a poll, of which two must be yes; five bookings, of which 1 and 2 compete for slot 7.
@@ -18,6 +20,7 @@ fn booked() -> [u16; WORDS] {
             a: 2,
             beta1: 1,
             beta2: 2,
+            edition: 0,
         },
     )
     .unwrap();
@@ -254,4 +257,12 @@ fn opening_again_forgets_everything() {
     open(&mut fresh, Setting::PAPER).unwrap();
     assert_eq!(ws, fresh);
     assert_eq!(ws[..8], [1, 10, 8, 11, 150, 0, 0, 0]);
+    let later = Setting {
+        edition: Setting::LATER_EDITION,
+        ..Setting::PAPER
+    };
+    open(&mut ws, later).unwrap();
+    assert_eq!(ws[..8], [1, 10, 8, 11, 150, 0, 1, 0]);
+    fresh[6] = 1;
+    assert_eq!(ws, fresh);
 }

@@ -1,15 +1,17 @@
 -- What the code of the rule goes by on a ledger: a used parent place holds a booking's number, and a counter that is too low is too low for both arms.
-use mathlib.Core.Path.{_≡_, refl}
-use mathlib.Core.Bool.{false, not, and-false, or-false}
+use mathlib.Core.Path.{_≡_, refl, sym, _∙_}
+use mathlib.Core.Bool.{false, true≢false, not, and-false, or-false}
 use mathlib.Core.List.{List}
 use mathlib.Core.Logic.{_≢_}
-use Prim.Native.Nat.{ℕ, _<_, _≤_}
+use Prim.Native.Nat.{ℕ, _<_}
 use native.Mathlib.Omega.{arith}
 use lib.Dec.{eqb}
-use borrow.Author.Tests.{le-ltb, eq-eqb, ne-eqb}
+use borrow.Author.Tests.{eq-eqb, ne-eqb}
+use Rattle.loops.proofs.Bools.{refuted}
+use Rattle.terms.proofs.Editions.{enough-lower}
 use Rattle.rules.specs.Layout.{mostBookings, mostParents, none, bookings, settingIn, slotOf, parentOf, isMarked, counterIn}
 use Rattle.rules.specs.Sound.{Ledger}
-use Rattle.rules.specs.Marks.{meetsRule}
+use Rattle.rules.specs.Marks.{counterEnough, meetsRule}
 use Rattle.rule_laws.proofs.Ancestry.{Parent-lt}
 use Rattle.acceptance_rule.specs.Steps.{unmarkedParent}
 
@@ -34,11 +36,7 @@ module _ (w : List ℕ) (ledger : Ledger w) (j : ℕ) (below : j < bookings w) w
       )
 
   -- β1 is not above β2
-  pub meetsRule-low : counterIn w (slotOf w j) ≤ settingIn w .beta1 → meetsRule w j ≡ eqb j 0
+  pub meetsRule-low : counterEnough w j (settingIn w .beta1) ≡ false → meetsRule w j ≡ eqb j 0
   meetsRule-low low =
-      simp (
-        le-ltb (settingIn w .beta1) (counterIn w (slotOf w j)) low,
-        le-ltb (settingIn w .beta2) (counterIn w (slotOf w j)) (omega (arith, ledger .sound .setting .betasRise)),
-        and-false,
-        or-false,
-      )
+      let lower = enough-lower (settingIn w .edition) (settingIn w .beta2) (settingIn w .beta1) (counterIn w (slotOf w j)) (ledger .sound .setting .betasRise) in
+      simp (low, refuted (counterEnough w j (settingIn w .beta2)) (λ e. true≢false (sym (lower e) ∙ low)), and-false, or-false)

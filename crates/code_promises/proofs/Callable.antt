@@ -180,9 +180,9 @@ filz-open-callable s w =
     record {
       allowed = record {
         at = ([], ([], tt));
-        given = (lent w, (s .k, (s .a, (s .beta1, (s .beta2, (lent (pos 0), tt))))));
+        given = (lent w, (s .k, (s .a, (s .beta1, (s .beta2, (s .edition, (lent (pos 0), tt)))))));
         returned = number (o .answer);
-        last = (o .words, (tt, (tt, (tt, (tt, (value (o .answer), tt))))));
+        last = (o .words, (tt, (tt, (tt, (tt, (tt, (value (o .answer), tt)))))));
         learnt = handed o;
       };
       asks = refl;

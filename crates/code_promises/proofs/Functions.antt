@@ -125,8 +125,8 @@ function by-find = record {
 function by-filz-open = record {
   contract = contractOf 2 code.filz_open.Kinds.ps code.filz_open.Kinds.r code.filz_open.Reads.Asked code.filz_open.Reads.Learnt;
   done = λ m. told
-      (Open (settingOf (m .given .1 .0) (m .given .1 .1 .0) (m .given .1 .1 .1 .0) (m .given .1 .1 .1 .1 .0)))
-      (now (m .given .0)) (m .returned) (now (left m .1 .1 .1 .1 .1 .0)) (now (left m .0));
+      (Open (settingOf (m .given .1 .0) (m .given .1 .1 .0) (m .given .1 .1 .1 .0) (m .given .1 .1 .1 .1 .0) (m .given .1 .1 .1 .1 .1 .0)))
+      (now (m .given .0)) (m .returned) (now (left m .1 .1 .1 .1 .1 .1 .0)) (now (left m .0));
 }
 function by-filz-book = record {
   contract = contractOf 3 code.filz_book.Kinds.ps code.filz_book.Kinds.r code.filz_book.Reads.Asked code.filz_book.Reads.Learnt;

@@ -1,4 +1,4 @@
--- CR 2, CR 4 and CR 5: the cases of writing the day file, and of reading what was written, one table under one statement, computed from the definitions on whole
+-- CR 2, CR 4, CR 5 and CR 7: the cases of writing the day file, and of reading what was written, one table under one statement, computed from the definitions on whole
 -- workspaces. Files that are bad stand in ReadCases.antt.
 -- Every step is a call with its refusals, as a user would make it. The bytes are plain numbers, worked out by hand from the request's words.
 use mathlib.Core.Path.{_≡_, sym, ap, ap₂, _∙_}
@@ -15,13 +15,14 @@ use Rattle.terms.specs.declared.answer.Tested.{Tested}
 use Rattle.terms.specs.Setting.{settingOf}
 use Rattle.terms.specs.Answers.{Outcome, Handover}
 use Rattle.terms.specs.Votes.{voteOf}
-use Rattle.rules.specs.Layout.{size, pollsField, confidenceField, markField, counterField, markOf, withHeader, withField, withEntry}
+use Rattle.terms.specs.Editions.{restart, enough, failureClears}
+use Rattle.rules.specs.Layout.{size, pollsField, confidenceField, markField, counterField, markOf, counterIn, withHeader, withField, withEntry}
 use Rattle.rules.specs.Ancestry.{ancestry, sweep, spread}
 use Rattle.rules.specs.IsSound.{headerGood, genesisGood, bookingGood, parentsGood, stateGood, markGood, chits, bookingsOf}
 use Rattle.rules.specs.Open.{opened, openWord}
 use Rattle.rules.specs.Book.{lookUp, hasUnknown, hasTwice, entered, booked}
 use Rattle.rules.specs.Marks.{anotherMarked, markOne}
-use Rattle.rules.specs.Poll.{polled, raiseOne, prefer, follow, settleOne}
+use Rattle.rules.specs.Poll.{polled, raiseOne, prefer, follow, settleOne, clearOne}
 use Rattle.rules.specs.Calls.{openCall, bookBy, pollBy, bookCall, pollCall}
 use Rattle.rules.proofs.Same.{sameNumbers, Got, got, Passes, passes, sameTable, same-table}
 use Rattle.rules.proofs.Walk.{badRecordWalked, badSlotWalked, testWalked, test-walked-is}
@@ -77,7 +78,7 @@ unopened = replicate size 0
 
 -- a ledger with another setting than any file here
 abbrev pub other : List ℕ
-other = openCall unopened (settingOf 1 1 1 1) .words
+other = openCall unopened (settingOf 1 1 1 1 0) .words
 
 -- ---- the ledger that document 01's listing is of
 
@@ -99,7 +100,7 @@ fileSays =
 
 unfoldable pub example : CallsMade → List (List Got)
 example c =
-    let empty = openCall unopened (settingOf 3 2 1 2) .words in
+    let empty = openCall unopened (settingOf 3 2 1 2 0) .words in
     let booked1 = c .book empty 1 7 (0 ∷ []) .words in
     let booked2 = c .book booked1 2 7 (0 ∷ []) .words in
     let booked3 = c .book booked2 3 9 (1 ∷ []) .words in
@@ -137,7 +138,7 @@ unfoldable pub second : CallsMade → List (List Got)
 second c =
     let highest : ℕ = 18446744073709551615 in
     let mixed : ℕ = 72623859790382856 in
-    let empty = openCall unopened (settingOf 64 33 300 510) .words in
+    let empty = openCall unopened (settingOf 64 33 300 510 0) .words in
     let booked1 = c .book empty highest 255 (0 ∷ []) .words in
     let booked2 = c .book booked1 mixed 1 (highest ∷ []) .words in
     let booked3 = c .book booked2 2 128 (mixed ∷ 0 ∷ highest ∷ []) .words in
@@ -168,7 +169,7 @@ lateSays =
 
 unfoldable pub late : CallsMade → List (List Got)
 late c =
-    let first = c .book (c .book (openCall unopened (settingOf 1 1 1 2) .words) 1 7 (0 ∷ []) .words) 2 8 (0 ∷ []) .words in
+    let first = c .book (c .book (openCall unopened (settingOf 1 1 1 2 0) .words) 1 7 (0 ∷ []) .words) 2 8 (0 ∷ []) .words in
     let booked = c .book first 3 9 (1 ∷ 2 ∷ []) .words in
     let accepted = c .poll (c .poll (c .poll booked 1 (1 ∷ []) .words) 3 (1 ∷ []) .words) 2 (1 ∷ []) .words in
     let rivalled = c .book accepted 4 7 (0 ∷ []) .words in
@@ -188,7 +189,7 @@ aloneSays = 0 ∷ 4 ∷ 0 ∷ 10 ∷ 0 ∷ 8 ∷ 0 ∷ 11 ∷ 0 ∷ 150 ∷ 0 �
 
 unfoldable pub alone : CallsMade → List (List Got)
 alone c =
-    let empty = openCall unopened (settingOf 10 8 11 150) .words in
+    let empty = openCall unopened (settingOf 10 8 11 150 0) .words in
     let again = c .read unopened aloneSays in
     -- a buffer of just the file's length
     written c empty (replicate 14 7)
@@ -209,11 +210,58 @@ aloneRows =
     ∷ leaving 0
     ∷ []
 
+-- ---- CR 7: edition 1, where each of its differences shows. The success of 1 makes its slot's counter 1, which is β1. The failure of 2, whose parent is 1, sets
+-- the counters of slots 0, 7 and 8 to 0. The success of 3, 2's rival, changes the last of slot 8, and its counter is 1; that of slot 0 is 1 again
+
+abbrev pub laterSays : List ℕ
+laterSays =
+    0 ∷ 5  -- five numbers: k, a, β1, β2, edition
+    ∷ 0 ∷ 1 ∷ 0 ∷ 1 ∷ 0 ∷ 1 ∷ 0 ∷ 2 ∷ 0 ∷ 1
+    ∷ 0 ∷ 3  -- bookings
+    ∷ 0 ∷ 0 ∷ 0 ∷ 0 ∷ 0 ∷ 0 ∷ 0 ∷ 1 ∷ 0 ∷ 7 ∷ 0 ∷ 1 ∷ 0 ∷ 0
+    ∷ 0 ∷ 0 ∷ 0 ∷ 0 ∷ 0 ∷ 0 ∷ 0 ∷ 2 ∷ 0 ∷ 8 ∷ 0 ∷ 1 ∷ 0 ∷ 1
+    ∷ 0 ∷ 0 ∷ 0 ∷ 0 ∷ 0 ∷ 0 ∷ 0 ∷ 3 ∷ 0 ∷ 8 ∷ 0 ∷ 1 ∷ 0 ∷ 0
+    ∷ 0 ∷ 3  -- polls
+    ∷ 0 ∷ 1 ∷ 0 ∷ 1
+    ∷ 0 ∷ 2 ∷ 0 ∷ 0
+    ∷ 0 ∷ 3 ∷ 0 ∷ 1
+    ∷ []
+
+-- the genesis alone, by the later edition
+abbrev pub aloneLaterSays : List ℕ
+aloneLaterSays = 0 ∷ 5 ∷ 0 ∷ 10 ∷ 0 ∷ 8 ∷ 0 ∷ 11 ∷ 0 ∷ 150 ∷ 0 ∷ 1 ∷ 0 ∷ 0 ∷ 0 ∷ 0 ∷ []
+
+unfoldable pub later : CallsMade → List (List Got)
+later c =
+    let first = c .book (c .book (openCall unopened (settingOf 1 1 1 2 1) .words) 1 7 (0 ∷ []) .words) 2 8 (1 ∷ []) .words in
+    let booked = c .book first 3 8 (0 ∷ []) .words in
+    let polled = c .poll (c .poll (c .poll booked 1 (1 ∷ []) .words) 2 (0 ∷ []) .words) 3 (1 ∷ []) .words in
+    let again = c .read other laterSays in
+    let empty = openCall unopened (settingOf 10 8 11 150 1) .words in
+    written c polled (replicate 70 7 ++ 8 ∷ [])
+    ∷ read again polled
+    -- the counters of slots 0, 7 and 8, and the mark of 1
+    ∷ (is (counterIn (again .words) 0) ∷ is (counterIn (again .words) 7) ∷ is (counterIn (again .words) 8) ∷ is (markOf (again .words) 1) ∷ [])
+    ∷ written c (again .words) (replicate 70 7)
+    ∷ written c empty (replicate 16 7)
+    ∷ read (c .read other aloneLaterSays) empty
+    ∷ []
+
+unfoldable pub laterRows : List (List Got)
+laterRows =
+    given (is 70) (laterSays ++ 8 ∷ [])
+    ∷ leaving 0
+    ∷ (is 1 ∷ is 0 ∷ is 1 ∷ is 1 ∷ [])
+    ∷ given (is 70) laterSays
+    ∷ given (is 16) aloneLaterSays
+    ∷ leaving 0
+    ∷ []
+
 -- ---- damage comes before a short buffer. One booking, number 1 in slot 7, waits: no confidence and no counter may be above 0, and p may be 0 or 1
 
 unfoldable pub damaged : CallsMade → List (List Got)
 damaged c =
-    let sound = c .book (openCall unopened (settingOf 1 1 1 2) .words) 1 7 (0 ∷ []) .words in
+    let sound = c .book (openCall unopened (settingOf 1 1 1 2 0) .words) 1 7 (0 ∷ []) .words in
     let counter = withEntry sound 7 counterField 1 in
     let confidence = withField counter 1 confidenceField 1 in
     let header = withHeader confidence pollsField 2 in
@@ -242,11 +290,11 @@ damagedRows =
 
 -- what the cases give
 abbrev pub table : CallsMade → List (List Got)
-table c = example c ++ second c ++ late c ++ alone c ++ damaged c
+table c = example c ++ second c ++ late c ++ alone c ++ later c ++ damaged c
 
 -- what the requests say
 abbrev pub says : List (List Got)
-says = exampleRows ++ secondRows ++ lateRows ++ aloneRows ++ damagedRows
+says = exampleRows ++ secondRows ++ lateRows ++ aloneRows ++ laterRows ++ damagedRows
 
 -- ---- computed with the test that walks
 
@@ -266,23 +314,27 @@ made test =
     }
 
 example-walked : Passes (sameTable (example (made testWalked)) exampleRows)
-unfolding example exampleRows decode valueOf readMany inOrder dayOf parentCount holder highFirst joined encode sameNumbers testWalked badRecordWalked badSlotWalked headerGood genesisGood bookingGood parentsGood stateGood markGood chits bookingsOf opened openWord lookUp hasUnknown hasTwice entered booked polled raiseOne prefer follow settleOne anotherMarked markOne ancestry sweep spread voteOf openCall upTo firstFrom total greatest from walkFrom
+unfolding example exampleRows decode valueOf readMany inOrder dayOf parentCount holder highFirst joined encode sameNumbers testWalked badRecordWalked badSlotWalked headerGood genesisGood bookingGood parentsGood stateGood markGood chits bookingsOf opened openWord lookUp hasUnknown hasTwice entered booked polled raiseOne prefer follow settleOne clearOne restart enough failureClears anotherMarked markOne ancestry sweep spread voteOf openCall upTo firstFrom total greatest from walkFrom
 example-walked = tt
 
 second-walked : Passes (sameTable (second (made testWalked)) secondRows)
-unfolding second secondRows decode valueOf readMany inOrder dayOf parentCount holder highFirst joined encode sameNumbers testWalked badRecordWalked badSlotWalked headerGood genesisGood bookingGood parentsGood stateGood markGood chits bookingsOf opened openWord lookUp hasUnknown hasTwice entered booked polled raiseOne prefer follow settleOne anotherMarked markOne ancestry sweep spread voteOf openCall upTo firstFrom total greatest from walkFrom
+unfolding second secondRows decode valueOf readMany inOrder dayOf parentCount holder highFirst joined encode sameNumbers testWalked badRecordWalked badSlotWalked headerGood genesisGood bookingGood parentsGood stateGood markGood chits bookingsOf opened openWord lookUp hasUnknown hasTwice entered booked polled raiseOne prefer follow settleOne clearOne restart enough failureClears anotherMarked markOne ancestry sweep spread voteOf openCall upTo firstFrom total greatest from walkFrom
 second-walked = tt
 
 late-walked : Passes (sameTable (late (made testWalked)) lateRows)
-unfolding late lateRows decode valueOf readMany inOrder dayOf parentCount holder highFirst joined encode sameNumbers testWalked badRecordWalked badSlotWalked headerGood genesisGood bookingGood parentsGood stateGood markGood chits bookingsOf opened openWord lookUp hasUnknown hasTwice entered booked polled raiseOne prefer follow settleOne anotherMarked markOne ancestry sweep spread voteOf openCall upTo firstFrom total greatest from walkFrom
+unfolding late lateRows decode valueOf readMany inOrder dayOf parentCount holder highFirst joined encode sameNumbers testWalked badRecordWalked badSlotWalked headerGood genesisGood bookingGood parentsGood stateGood markGood chits bookingsOf opened openWord lookUp hasUnknown hasTwice entered booked polled raiseOne prefer follow settleOne clearOne restart enough failureClears anotherMarked markOne ancestry sweep spread voteOf openCall upTo firstFrom total greatest from walkFrom
 late-walked = tt
 
 alone-walked : Passes (sameTable (alone (made testWalked)) aloneRows)
-unfolding alone aloneRows decode valueOf readMany inOrder dayOf parentCount holder highFirst joined encode sameNumbers testWalked badRecordWalked badSlotWalked headerGood genesisGood bookingGood parentsGood stateGood markGood chits bookingsOf opened openWord lookUp hasUnknown hasTwice entered booked polled raiseOne prefer follow settleOne anotherMarked markOne ancestry sweep spread voteOf openCall upTo firstFrom total greatest from walkFrom
+unfolding alone aloneRows decode valueOf readMany inOrder dayOf parentCount holder highFirst joined encode sameNumbers testWalked badRecordWalked badSlotWalked headerGood genesisGood bookingGood parentsGood stateGood markGood chits bookingsOf opened openWord lookUp hasUnknown hasTwice entered booked polled raiseOne prefer follow settleOne clearOne restart enough failureClears anotherMarked markOne ancestry sweep spread voteOf openCall upTo firstFrom total greatest from walkFrom
 alone-walked = tt
 
+later-walked : Passes (sameTable (later (made testWalked)) laterRows)
+unfolding later laterRows decode valueOf readMany inOrder dayOf parentCount holder highFirst joined encode sameNumbers testWalked badRecordWalked badSlotWalked headerGood genesisGood bookingGood parentsGood stateGood markGood chits bookingsOf opened openWord lookUp hasUnknown hasTwice entered booked polled raiseOne prefer follow settleOne clearOne restart enough failureClears anotherMarked markOne ancestry sweep spread voteOf openCall upTo firstFrom total greatest from walkFrom
+later-walked = tt
+
 damaged-walked : Passes (sameTable (damaged (made testWalked)) damagedRows)
-unfolding damaged damagedRows decode valueOf readMany inOrder dayOf parentCount holder highFirst joined encode sameNumbers testWalked badRecordWalked badSlotWalked headerGood genesisGood bookingGood parentsGood stateGood markGood chits bookingsOf opened openWord lookUp hasUnknown hasTwice entered booked polled raiseOne prefer follow settleOne anotherMarked markOne ancestry sweep spread voteOf openCall upTo firstFrom total greatest from walkFrom
+unfolding damaged damagedRows decode valueOf readMany inOrder dayOf parentCount holder highFirst joined encode sameNumbers testWalked badRecordWalked badSlotWalked headerGood genesisGood bookingGood parentsGood stateGood markGood chits bookingsOf opened openWord lookUp hasUnknown hasTwice entered booked polled raiseOne prefer follow settleOne clearOne restart enough failureClears anotherMarked markOne ancestry sweep spread voteOf openCall upTo firstFrom total greatest from walkFrom
 damaged-walked = tt
 
 -- one ledger's rows, by the calls of the law
@@ -295,6 +347,8 @@ pub cases : table theCalls ≡ says
 cases =
     ap₂ _++_
     (ap₂ _++_
+    (ap₂ _++_
     (ap₂ _++_ (ap₂ _++_ (rows-by example exampleRows example-walked) (rows-by second secondRows second-walked)) (rows-by late lateRows late-walked))
     (rows-by alone aloneRows alone-walked))
+    (rows-by later laterRows later-walked))
     (rows-by damaged damagedRows damaged-walked)

@@ -1,7 +1,7 @@
--- CR 2 and CR 4: reading undoes writing. Each part is read off the front of its bytes, whatever follows them, so the parts can be read one after the other:
+-- CR 2, CR 4 and CR 7: reading undoes writing. Each part is read off the front of its bytes, whatever follows them, so the parts can be read one after the other:
 -- numbers, lists after their count, bookings, polls, the day. Two days with the same bytes are then the same day. Assumes nothing.
 use mathlib.Core.Path.{_≡_, refl, sym, ap, ap₂, _∙_}
-use mathlib.Core.Bool.{Bool, true, false}
+use mathlib.Core.Bool.{Bool, true, false, cond}
 use mathlib.Core.List.{List, [], _∷_, _++_, append-assoc, append-nil}
 use Prim.Native.Nat.{ℕ, zero, suc, _+_, _*_, _/_, _%_, _^_, _<_}
 use native.Mathlib.Nat.{pow-succ', one-le-pow, mod-eq-of-lt}
@@ -9,6 +9,7 @@ use native.Mathlib.Omega.{arith}
 use lib.Arith.{mod-mul}
 use lib.Dec.{eqb}
 use lib.ListN.{length, getD, drop}
+use borrow.Author.Tests.{eqb-true}
 use Rattle.loops.specs.Total.{bit}
 use Rattle.loops.proofs.Total.{bit-le}
 use Rattle.terms.specs.declared.setting.Setting.{Setting}
@@ -135,6 +136,7 @@ pub record SettingFits (s : Setting) : Type 0 where
   pub a : Short (s .a)
   pub beta1 : Short (s .beta1)
   pub beta2 : Short (s .beta2)
+  pub edition : Short (s .edition)
 
 pub record BookingFits (b : DayBooking) : Type 0 where
   pub name : b .name < 2 ^ 64
@@ -149,10 +151,27 @@ pub record DayFits (d : Day) : Type 0 where
   pub bookings : Few BookingFits (d .bookings)
   pub polls : Few PollFits (d .polls)
 
+-- the setting that a list of numbers is; an edition that isn't there is 0
+abbrev numbersSetting : List ℕ → Setting
+numbersSetting l = settingOf (getD l 0 0) (getD l 1 0) (getD l 2 0) (getD l 3 0) (getD l 4 0)
+
+-- an edition is told by its number, or by none if it is 0
+edition-told : (s : Setting) (b : Bool) → eqb (s .edition) 0 ≡ b → getD (cond b [] (s .edition ∷ [])) 0 0 ≡ s .edition
+edition-told s true e = sym (eqb-true (s .edition) 0 e)
+edition-told s false e = refl
+
+numbers-setting : (s : Setting) → numbersSetting (settingNumbers s) ≡ s
+numbers-setting s = ap (settingOf (s .k) (s .a) (s .beta1) (s .beta2)) (edition-told s (eqb (s .edition) 0) refl)
+
+numbers-fit : (s : Setting) → SettingFits s → Few Short (settingNumbers s)
+numbers-fit s fits =
+    elim (eqb (s .edition) 0) as (λ b. Few Short (s .k ∷ s .a ∷ s .beta1 ∷ s .beta2 ∷ cond b [] (s .edition ∷ []))) [
+      | true ↦ record { few = omega arith; each = (fits .k, (fits .a, (fits .beta1, (fits .beta2, tt)))) }
+      | false ↦ record { few = omega arith; each = (fits .k, (fits .a, (fits .beta1, (fits .beta2, (fits .edition, tt))))) }
+    ]
+
 pub setting-undone : Undone settingSection readSetting SettingFits
-setting-undone =
-    parts-undone (counted-undone number-undone) settingNumbers (λ l. settingOf (getD l 0 0) (getD l 1 0) (getD l 2 0) (getD l 3 0)) (λ s. refl)
-    SettingFits (λ s fits. record { few = omega arith; each = (fits .k, (fits .a, (fits .beta1, (fits .beta2, tt)))) })
+setting-undone = parts-undone (counted-undone number-undone) settingNumbers numbersSetting numbers-setting SettingFits numbers-fit
 
 pub booking-undone : Undone bookingBytes readBooking BookingFits
 booking-undone =

@@ -1,4 +1,4 @@
--- CR 2 and CR 4: a file is of bytes, and whatever bytes are read as fits them: a day that is read can be written. Assumes nothing.
+-- CR 2, CR 4 and CR 7: a file is of bytes, and whatever bytes are read as fits them: a day that is read can be written. Assumes nothing.
 use mathlib.Core.List.{List, [], _∷_, _++_}
 use Prim.Native.Nat.{ℕ, zero, suc, _+_, _*_, _^_, _<_, _≤_}
 use native.Mathlib.Nat.{mul-le-mul-right, pow-suc}
@@ -115,7 +115,7 @@ setting-sure =
     record {
       fits = λ l p.
           let short = getD-short (readCounted readNumber l .value) (counted-sure number-sure .fits l p .each) in
-          record { k = short 0; a = short 1; beta1 = short 2; beta2 = short 3 };
+          record { k = short 0; a = short 1; beta1 = short 2; beta2 = short 3; edition = short 4 };
       leaves = counted-sure number-sure .leaves;
     }
 

@@ -1,9 +1,12 @@
--- CR 2: how long a day file is. Exactly, as a loop over the bookings counts it, for any words; and from 14 to 12,266 bytes on a ledger. Assumes nothing.
+-- CR 2 and CR 7: how long a day file is. Exactly, as a loop over the bookings counts it, for any words; and on a ledger from 14 to 12,266 bytes in edition 0, from
+-- 16 to 12,268 in edition 1. Assumes nothing.
 use mathlib.Core.Path.{_≡_, refl, _∙_}
-use mathlib.Core.List.{List, _++_}
+use mathlib.Core.Bool.{true, false, cond}
+use mathlib.Core.List.{List, [], _∷_, _++_}
 use Prim.Native.Nat.{ℕ, zero, suc, _+_, _*_, _-_, _<_, _≤_}
 use native.Mathlib.Decide.{decLt}
 use native.Mathlib.Omega.{arith}
+use lib.Dec.{eqb}
 use lib.ListN.{length, length-append}
 use Rattle.loops.specs.Fill.{from}
 use Rattle.loops.specs.Total.{total}
@@ -11,7 +14,7 @@ use Rattle.loops.proofs.Fill.{length-from}
 use Rattle.loops.proofs.Total.{total-same}
 use Rattle.terms.specs.declared.setting.Setting.{Setting}
 use Rattle.terms.specs.Setting.{settingNumbers}
-use Rattle.rules.specs.Layout.{bookings, polls, parentOf}
+use Rattle.rules.specs.Layout.{bookings, settingIn, polls, parentOf}
 use Rattle.rules.specs.Sound.{Ledger}
 use Rattle.day_file.specs.Day.{DayBooking, DayPoll, Day, parentCount, bookingAt, holder, pollOf, dayOf}
 use Rattle.day_file.specs.Bytes.{
@@ -28,7 +31,7 @@ use Rattle.day_file.specs.Bytes.{
   encode,
   dayFile,
 }
-use Rattle.day_file.specs.InTurn.{bookingLength}
+use Rattle.day_file.specs.InTurn.{editionLength, bookingLength}
 use Rattle.day_file.proofs.Joined.{length-highFirst, length-counted, length-joined, length-joined-even}
 use Rattle.day_file.proofs.Parents.{parentCount-most, parentCount-lower}
 
@@ -38,8 +41,18 @@ use Rattle.day_file.proofs.Parents.{parentCount-most, parentCount-lower
 length-numbers : (ns : List ℕ) → length (counted numberBytes ns) ≡ 2 + 2 * length ns
 length-numbers ns = omega (arith, length-counted numberBytes ns, length-joined-even numberBytes 2 (length-highFirst 2) ns)
 
-pub length-settingSection : (s : Setting) → length (settingSection s) ≡ 10
-length-settingSection s = length-numbers (settingNumbers s)
+-- four numbers, and the edition where it is written
+pub length-settingNumbers : (s : Setting) → 2 * length (settingNumbers s) ≡ 8 + editionLength (s .edition)
+unfolding editionLength
+length-settingNumbers s =
+    elim (eqb (s .edition) 0) as (λ b. 2 * length (s .k ∷ s .a ∷ s .beta1 ∷ s .beta2 ∷ cond b [] (s .edition ∷ [])) ≡ 8 + cond b 0 2) [ true ↦ refl | false ↦ refl ]
+
+pub length-settingSection : (s : Setting) → length (settingSection s) ≡ 10 + editionLength (s .edition)
+length-settingSection s = omega (arith, length-numbers (settingNumbers s), length-settingNumbers s)
+
+pub editionLength-most : (edition : ℕ) → editionLength edition ≤ 2
+unfolding editionLength
+editionLength-most edition = elim (eqb edition 0) as (λ b. cond b 0 2 ≤ 2) [ true ↦ omega arith | false ↦ omega arith ]
 
 pub length-bookingBytes : (b : DayBooking) → length (bookingBytes b) ≡ 12 + 2 * length (b .parents)
 length-bookingBytes b =
@@ -58,7 +71,8 @@ length-pollBytes q = refl
 
 -- ---- the whole
 
-pub length-encode : (d : Day) → length (encode d) ≡ 14 + length (joined bookingBytes (d .bookings)) + 4 * length (d .polls)
+pub length-encode : (d : Day)
+    → length (encode d) ≡ 14 + editionLength (d .setting .edition) + length (joined bookingBytes (d .bookings)) + 4 * length (d .polls)
 unfolding encode
 length-encode d =
     omega (
@@ -79,7 +93,8 @@ length-bookings w n =
     let number : 1 + j ≡ j + 1 = omega arith in
     rw number (omega (arith, length-bookingBytes (bookingAt w (j + 1)), length-from (parentOf w (j + 1)) 0 (parentCount w (j + 1)))))
 
-pub length-dayFile : (w : List ℕ) → length (dayFile w) ≡ 14 + total (bookingLength w) (bookings w - 1) + 4 * polls w
+pub length-dayFile : (w : List ℕ)
+    → length (dayFile w) ≡ 14 + editionLength (settingIn w .edition) + total (bookingLength w) (bookings w - 1) + 4 * polls w
 unfolding dayOf
 length-dayFile w =
     omega (
@@ -110,14 +125,14 @@ module _ (w : List ℕ) (ledger : Ledger w) where
       rw (more, total) (omega (arith, bookings-less n (omega arith), parentCount-most w (3 + n + 1)))
 
   -- the genesis alone
-  pub dayFile-least : 14 ≤ length (dayFile w)
+  pub dayFile-least : 14 + editionLength (settingIn w .edition) ≤ length (dayFile w)
   dayFile-least = omega (arith, length-dayFile w)
 
   -- 512 bookings, 511 polls
-  pub dayFile-most : length (dayFile w) ≤ 12266
+  pub dayFile-most : length (dayFile w) ≤ 12266 + editionLength (settingIn w .edition)
   dayFile-most = go (decLt (bookings w) 4)
     where
-      go : Dec (bookings w < 4) → length (dayFile w) ≤ 12266
+      go : Dec (bookings w < 4) → length (dayFile w) ≤ 12266 + editionLength (settingIn w .edition)
       go (yes u) = omega (arith, length-dayFile w, bookings-most w (bookings w - 1), ledger .sound .pollsMost)
       go (no u) =
           let rest : 3 + (bookings w - 4) ≡ bookings w - 1 = omega arith in

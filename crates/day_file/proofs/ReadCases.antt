@@ -1,4 +1,4 @@
--- CR 4: the cases of files that are bad, one table under one statement, computed from the definitions on whole workspaces.
+-- CR 4 and CR 7: the cases of files that are bad, one table under one statement, computed from the definitions on whole workspaces.
 -- Most are a small good file with one change. The bytes are plain numbers, worked out by hand from the requests' words.
 use mathlib.Core.Path.{_≡_, ap₂}
 use mathlib.Core.List.{List, [], _∷_, _++_}
@@ -10,12 +10,13 @@ use Rattle.loops.specs.Total.{total, greatest}
 use Rattle.loops.specs.Fill.{from}
 use Rattle.loops.specs.Rows.{walkFrom}
 use Rattle.terms.specs.Votes.{voteOf}
+use Rattle.terms.specs.Editions.{restart, enough, failureClears}
 use Rattle.rules.specs.Ancestry.{ancestry, sweep, spread}
 use Rattle.rules.specs.IsSound.{headerGood, genesisGood, bookingGood, parentsGood, stateGood, markGood, chits, bookingsOf}
 use Rattle.rules.specs.Open.{opened, openWord}
 use Rattle.rules.specs.Book.{lookUp, hasUnknown, hasTwice, entered, booked}
 use Rattle.rules.specs.Marks.{anotherMarked, markOne}
-use Rattle.rules.specs.Poll.{polled, raiseOne, prefer, follow, settleOne}
+use Rattle.rules.specs.Poll.{polled, raiseOne, prefer, follow, settleOne, clearOne}
 use Rattle.rules.specs.Calls.{openCall}
 use Rattle.rules.proofs.Same.{sameNumbers, Got, got, Passes, sameTable}
 use Rattle.rules.proofs.Walk.{badRecordWalked, badSlotWalked, testWalked}
@@ -79,6 +80,23 @@ amiss c =
 
 unfoldable pub amissRows : List (List Got)
 amissRows = replicate 9 (leaving 17)
+
+-- ---- CR 7: the genesis alone of edition 1, which is taken, with one change
+
+unfoldable pub editions : CallsMade → List (List Got)
+editions c =
+    readEach c (
+    -- edition 0 after a count of 5, and edition 2
+    (0 ∷ 5 ∷ 0 ∷ 10 ∷ 0 ∷ 8 ∷ 0 ∷ 11 ∷ 0 ∷ 150 ∷ 0 ∷ 0 ∷ 0 ∷ 0 ∷ 0 ∷ 0 ∷ [])
+    ∷ (0 ∷ 5 ∷ 0 ∷ 10 ∷ 0 ∷ 8 ∷ 0 ∷ 11 ∷ 0 ∷ 150 ∷ 0 ∷ 2 ∷ 0 ∷ 0 ∷ 0 ∷ 0 ∷ [])
+    -- a count of 4 before five numbers, and of 6 before six
+    ∷ (0 ∷ 4 ∷ 0 ∷ 10 ∷ 0 ∷ 8 ∷ 0 ∷ 11 ∷ 0 ∷ 150 ∷ 0 ∷ 1 ∷ 0 ∷ 0 ∷ 0 ∷ 0 ∷ [])
+    ∷ (0 ∷ 6 ∷ 0 ∷ 10 ∷ 0 ∷ 8 ∷ 0 ∷ 11 ∷ 0 ∷ 150 ∷ 0 ∷ 1 ∷ 0 ∷ 1 ∷ 0 ∷ 0 ∷ 0 ∷ 0 ∷ [])
+    ∷ []
+    )
+
+unfoldable pub editionsRows : List (List Got)
+editionsRows = replicate 4 (leaving 17)
 
 -- ---- a setting or a booking that is not taken
 
@@ -170,42 +188,46 @@ longerRows = leaving 1 ∷ leaving 1 ∷ []
 
 -- what the cases give
 abbrev pub table : CallsMade → List (List Got)
-table c = unchanged c ++ amiss c ++ unbooked c ++ ahead c ++ crowded c ++ unpolled c ++ longer c
+table c = unchanged c ++ amiss c ++ editions c ++ unbooked c ++ ahead c ++ crowded c ++ unpolled c ++ longer c
 
--- what CR 4 says
+-- what the requests say
 abbrev pub says : List (List Got)
-says = unchangedRows ++ amissRows ++ unbookedRows ++ aheadRows ++ crowdedRows ++ unpolledRows ++ longerRows
+says = unchangedRows ++ amissRows ++ editionsRows ++ unbookedRows ++ aheadRows ++ crowdedRows ++ unpolledRows ++ longerRows
 
 -- ---- computed with the test that walks
 
 unchanged-walked : Passes (sameTable (unchanged (made testWalked)) unchangedRows)
-unfolding unchanged unchangedRows decode valueOf readMany inOrder dayOf parentCount holder highFirst joined encode sameNumbers testWalked badRecordWalked badSlotWalked headerGood genesisGood bookingGood parentsGood stateGood markGood chits bookingsOf opened openWord lookUp hasUnknown hasTwice entered booked polled raiseOne prefer follow settleOne anotherMarked markOne ancestry sweep spread voteOf openCall upTo firstFrom total greatest from walkFrom
+unfolding unchanged unchangedRows decode valueOf readMany inOrder dayOf parentCount holder highFirst joined encode sameNumbers testWalked badRecordWalked badSlotWalked headerGood genesisGood bookingGood parentsGood stateGood markGood chits bookingsOf opened openWord lookUp hasUnknown hasTwice entered booked polled raiseOne prefer follow settleOne clearOne restart enough failureClears anotherMarked markOne ancestry sweep spread voteOf openCall upTo firstFrom total greatest from walkFrom
 unchanged-walked = tt
 
 amiss-walked : Passes (sameTable (amiss (made testWalked)) amissRows)
-unfolding amiss amissRows decode valueOf readMany inOrder dayOf parentCount holder highFirst joined encode sameNumbers testWalked badRecordWalked badSlotWalked headerGood genesisGood bookingGood parentsGood stateGood markGood chits bookingsOf opened openWord lookUp hasUnknown hasTwice entered booked polled raiseOne prefer follow settleOne anotherMarked markOne ancestry sweep spread voteOf openCall upTo firstFrom total greatest from walkFrom
+unfolding amiss amissRows decode valueOf readMany inOrder dayOf parentCount holder highFirst joined encode sameNumbers testWalked badRecordWalked badSlotWalked headerGood genesisGood bookingGood parentsGood stateGood markGood chits bookingsOf opened openWord lookUp hasUnknown hasTwice entered booked polled raiseOne prefer follow settleOne clearOne restart enough failureClears anotherMarked markOne ancestry sweep spread voteOf openCall upTo firstFrom total greatest from walkFrom
 amiss-walked = tt
 
+editions-walked : Passes (sameTable (editions (made testWalked)) editionsRows)
+unfolding editions editionsRows decode valueOf readMany inOrder dayOf parentCount holder highFirst joined encode sameNumbers testWalked badRecordWalked badSlotWalked headerGood genesisGood bookingGood parentsGood stateGood markGood chits bookingsOf opened openWord lookUp hasUnknown hasTwice entered booked polled raiseOne prefer follow settleOne clearOne restart enough failureClears anotherMarked markOne ancestry sweep spread voteOf openCall upTo firstFrom total greatest from walkFrom
+editions-walked = tt
+
 unbooked-walked : Passes (sameTable (unbooked (made testWalked)) unbookedRows)
-unfolding unbooked unbookedRows decode valueOf readMany inOrder dayOf parentCount holder highFirst joined encode sameNumbers testWalked badRecordWalked badSlotWalked headerGood genesisGood bookingGood parentsGood stateGood markGood chits bookingsOf opened openWord lookUp hasUnknown hasTwice entered booked polled raiseOne prefer follow settleOne anotherMarked markOne ancestry sweep spread voteOf openCall upTo firstFrom total greatest from walkFrom
+unfolding unbooked unbookedRows decode valueOf readMany inOrder dayOf parentCount holder highFirst joined encode sameNumbers testWalked badRecordWalked badSlotWalked headerGood genesisGood bookingGood parentsGood stateGood markGood chits bookingsOf opened openWord lookUp hasUnknown hasTwice entered booked polled raiseOne prefer follow settleOne clearOne restart enough failureClears anotherMarked markOne ancestry sweep spread voteOf openCall upTo firstFrom total greatest from walkFrom
 unbooked-walked = tt
 
 ahead-walked : Passes (sameTable (ahead (made testWalked)) aheadRows)
-unfolding ahead aheadRows decode valueOf readMany inOrder dayOf parentCount holder highFirst joined encode sameNumbers testWalked badRecordWalked badSlotWalked headerGood genesisGood bookingGood parentsGood stateGood markGood chits bookingsOf opened openWord lookUp hasUnknown hasTwice entered booked polled raiseOne prefer follow settleOne anotherMarked markOne ancestry sweep spread voteOf openCall upTo firstFrom total greatest from walkFrom
+unfolding ahead aheadRows decode valueOf readMany inOrder dayOf parentCount holder highFirst joined encode sameNumbers testWalked badRecordWalked badSlotWalked headerGood genesisGood bookingGood parentsGood stateGood markGood chits bookingsOf opened openWord lookUp hasUnknown hasTwice entered booked polled raiseOne prefer follow settleOne clearOne restart enough failureClears anotherMarked markOne ancestry sweep spread voteOf openCall upTo firstFrom total greatest from walkFrom
 ahead-walked = tt
 
 crowded-walked : Passes (sameTable (crowded (made testWalked)) crowdedRows)
-unfolding crowded crowdedRows decode valueOf readMany inOrder dayOf parentCount holder highFirst joined encode sameNumbers testWalked badRecordWalked badSlotWalked headerGood genesisGood bookingGood parentsGood stateGood markGood chits bookingsOf opened openWord lookUp hasUnknown hasTwice entered booked polled raiseOne prefer follow settleOne anotherMarked markOne ancestry sweep spread voteOf openCall upTo firstFrom total greatest from walkFrom
+unfolding crowded crowdedRows decode valueOf readMany inOrder dayOf parentCount holder highFirst joined encode sameNumbers testWalked badRecordWalked badSlotWalked headerGood genesisGood bookingGood parentsGood stateGood markGood chits bookingsOf opened openWord lookUp hasUnknown hasTwice entered booked polled raiseOne prefer follow settleOne clearOne restart enough failureClears anotherMarked markOne ancestry sweep spread voteOf openCall upTo firstFrom total greatest from walkFrom
 crowded-walked = tt
 
 unpolled-walked : Passes (sameTable (unpolled (made testWalked)) unpolledRows)
-unfolding unpolled unpolledRows decode valueOf readMany inOrder dayOf parentCount holder highFirst joined encode sameNumbers testWalked badRecordWalked badSlotWalked headerGood genesisGood bookingGood parentsGood stateGood markGood chits bookingsOf opened openWord lookUp hasUnknown hasTwice entered booked polled raiseOne prefer follow settleOne anotherMarked markOne ancestry sweep spread voteOf openCall upTo firstFrom total greatest from walkFrom
+unfolding unpolled unpolledRows decode valueOf readMany inOrder dayOf parentCount holder highFirst joined encode sameNumbers testWalked badRecordWalked badSlotWalked headerGood genesisGood bookingGood parentsGood stateGood markGood chits bookingsOf opened openWord lookUp hasUnknown hasTwice entered booked polled raiseOne prefer follow settleOne clearOne restart enough failureClears anotherMarked markOne ancestry sweep spread voteOf openCall upTo firstFrom total greatest from walkFrom
 unpolled-walked = tt
 
 longer-walked : Passes (sameTable (longer (made testWalked)) longerRows)
-unfolding longer longerRows decode valueOf readMany inOrder dayOf parentCount holder highFirst joined encode sameNumbers testWalked badRecordWalked badSlotWalked headerGood genesisGood bookingGood parentsGood stateGood markGood chits bookingsOf opened openWord lookUp hasUnknown hasTwice entered booked polled raiseOne prefer follow settleOne anotherMarked markOne ancestry sweep spread voteOf openCall upTo firstFrom total greatest from walkFrom
+unfolding longer longerRows decode valueOf readMany inOrder dayOf parentCount holder highFirst joined encode sameNumbers testWalked badRecordWalked badSlotWalked headerGood genesisGood bookingGood parentsGood stateGood markGood chits bookingsOf opened openWord lookUp hasUnknown hasTwice entered booked polled raiseOne prefer follow settleOne clearOne restart enough failureClears anotherMarked markOne ancestry sweep spread voteOf openCall upTo firstFrom total greatest from walkFrom
 longer-walked = tt
 
 -- the statement: the cases are as the request says
 pub cases : table theCalls ≡ says
-cases = ap₂ _++_ (ap₂ _++_ (ap₂ _++_ (ap₂ _++_ (ap₂ _++_ (ap₂ _++_ (rows-by unchanged unchangedRows unchanged-walked) (rows-by amiss amissRows amiss-walked)) (rows-by unbooked unbookedRows unbooked-walked)) (rows-by ahead aheadRows ahead-walked)) (rows-by crowded crowdedRows crowded-walked)) (rows-by unpolled unpolledRows unpolled-walked)) (rows-by longer longerRows longer-walked)
+cases = ap₂ _++_ (ap₂ _++_ (ap₂ _++_ (ap₂ _++_ (ap₂ _++_ (ap₂ _++_ (ap₂ _++_ (rows-by unchanged unchangedRows unchanged-walked) (rows-by amiss amissRows amiss-walked)) (rows-by editions editionsRows editions-walked)) (rows-by unbooked unbookedRows unbooked-walked)) (rows-by ahead aheadRows ahead-walked)) (rows-by crowded crowdedRows crowded-walked)) (rows-by unpolled unpolledRows unpolled-walked)) (rows-by longer longerRows longer-walked)

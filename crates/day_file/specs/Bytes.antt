@@ -1,4 +1,4 @@
--- CR 2: the bytes of a day. Three sections, each after its count; numbers in two bytes, names in eight, high byte first.
+-- CR 2 and CR 7: the bytes of a day. Three sections, each after its count; numbers in two bytes, names in eight, high byte first.
 use Prim.Native.Nat.{ℕ, zero, suc, _/_, _%_, _^_}
 use mathlib.Core.List.{List, [], _∷_, _++_}
 use lib.ListN.{length}
@@ -29,7 +29,7 @@ counted bytes xs = numberBytes (length xs) ++ joined bytes xs
 
 -- ---- the sections
 
--- first: count 4, then k, a, β1, β2
+-- first: count 4, then k, a, β1, β2; in edition 1 count 5, and the edition behind them
 abbrev pub settingSection : Setting → List ℕ
 settingSection s = counted numberBytes (settingNumbers s)
 

@@ -1,4 +1,4 @@
--- CR 4: the day that bytes are read as. A reader takes what it needs off the front and leaves the bytes that follow; where bytes are missing it reads
+-- CR 4 and CR 7: the day that bytes are read as. A reader takes what it needs off the front and leaves the bytes that follow; where bytes are missing it reads
 -- zeros. So every list of bytes is read as some day. Whether it is the file of that day is asked by writing the day again (Replay.antt).
 use Prim.Native.Nat.{ℕ, zero, suc, _+_, _*_, _^_}
 use mathlib.Core.List.{List, [], _∷_}
@@ -42,12 +42,13 @@ readCounted read bytes = let count = readNumber bytes in readMany read (count .v
 
 -- ---- the sections
 
--- as many numbers as the count says; the first four are k, a, β1, β2. With another count than 4 the day is not written with these bytes
+-- as many numbers as the count says: k, a, β1, β2 and the edition, which is 0 where no fifth stands. The day is written with these bytes only if the count
+-- is 4, or 5 before an edition that isn't 0
 abbrev pub readSetting : List ℕ → Read Setting
 readSetting bytes =
     let numbers = readCounted readNumber bytes in
     let number : ℕ → ℕ = λ j. getD (numbers .value) j 0 in
-    record { value = settingOf (number 0) (number 1) (number 2) (number 3); rest = numbers .rest }
+    record { value = settingOf (number 0) (number 1) (number 2) (number 3) (number 4); rest = numbers .rest }
 
 -- name, slot, parents' numbers
 abbrev pub readBooking : List ℕ → Read DayBooking

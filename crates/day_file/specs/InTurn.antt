@@ -16,6 +16,10 @@ use Rattle.day_file.specs.Replay.{inOrder, rebookBy, repollBy}
 
 -- ---- writing
 
+-- how many bytes the edition takes behind the other numbers of a setting: edition 0 is not written
+unfoldable pub editionLength : (edition : ℕ) → ℕ
+editionLength edition = cond (eqb edition 0) 0 2
+
 -- how many bytes the booking after j others takes, which has number j + 1
 abbrev pub bookingLength : List ℕ → ℕ → ℕ
 bookingLength w j = 12 + 2 * parentCount w (j + 1)

@@ -5,4 +5,5 @@ pub mod Rules
 pub mod Rows
 pub mod Bookings
 pub mod Polls
+pub mod Settings
 pub mod Whole

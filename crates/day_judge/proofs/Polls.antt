@@ -1,4 +1,4 @@
--- A poll in a file and all of them: what is read, when its bytes are those of a poll, and that the bits set are the numbers polled before.
+-- A poll at an offset and all of them: what is read, when its bytes are those of a poll, and that the bits set are the numbers polled before.
 -- Rests on specs/Parts.antt. Assumes nothing.
 use mathlib.Core.Path.{_≡_, refl, sym, ap, ap₂, _∙_}
 use mathlib.Core.Bool.{Bool, true, false, not, _&&_, true≢false}
@@ -90,14 +90,14 @@ module _ (l a b : List ℕ) (i o : ℕ) (fi : i < 65536) (fo : o < 65536) (f : l
 pub polls-short : (most : ℕ) (l : List ℕ) → PollsGood most l → 2 ≤ length l
 polls-short most l claim = omega (arith, ap length (claim .laid), length-counted pollBytes (readCounted readPoll l .value))
 
-module _ (file : List ℕ) (at p : ℕ) (fp : p < 65536) (e : drop at file ≡ numberBytes p ++ drop (at + 2) file) where
+module _ (sections : List ℕ) (at p : ℕ) (fp : p < 65536) (e : drop at sections ≡ numberBytes p ++ drop (at + 2) sections) where
   abbrev rows : List ℕ
-  rows = drop (at + 2) file
+  rows = drop (at + 2) sections
 
   abbrev polls : List DayPoll
   polls = readMany readPoll p rows .value
 
-  polls-are : readCounted readPoll (drop at file) .value ≡ polls
+  polls-are : readCounted readPoll (drop at sections) .value ≡ polls
   polls-are = ap (λ (m : Read ℕ). readMany readPoll (m .value) (m .rest) .value) (number-read p fp e)
 
   polls-many : length polls ≡ p
@@ -107,17 +107,17 @@ module _ (file : List ℕ) (at p : ℕ) (fp : p < 65536) (e : drop at file ≡ n
   polls-long = omega (arith, length-joined-even pollBytes 4 length-pollBytes polls, polls-many)
 
   -- where poll q stands
-  pub poll-there : (q : ℕ) → readMany readPoll q rows .rest ≡ drop (at + 2 + 4 * q) file
+  pub poll-there : (q : ℕ) → readMany readPoll q rows .rest ≡ drop (at + 2 + 4 * q) sections
   poll-there q =
       let long : length (joined pollBytes (readMany readPoll q rows .value)) ≡ 4 * q = omega (arith, length-joined-even pollBytes 4 length-pollBytes (readMany readPoll q rows .value), length-readMany readPoll q rows) in
-      many-leave pollBytes readPoll poll-leaves q rows ∙ ap (λ k. drop k rows) long ∙ drop-drop (4 * q) (at + 2) file
+      many-leave pollBytes readPoll poll-leaves q rows ∙ ap (λ k. drop k rows) long ∙ drop-drop (4 * q) (at + 2) sections
 
   -- poll q of the day
-  pub poll-at : (q : ℕ) → q < p → pollIn polls q ≡ readPoll (drop (at + 2 + 4 * q) file) .value
+  pub poll-at : (q : ℕ) → q < p → pollIn polls q ≡ readPoll (drop (at + 2 + 4 * q) sections) .value
   poll-at q u = readMany-at readPoll (record { booking = 0; success = false }) p q rows u ∙ ap (λ l. readPoll l .value) (poll-there q)
 
   -- with the numbers polled before as bits, its rules are the law's
-  pub poll-rules : (most q : ℕ) → most < mostBookings → q < p → pollTest most (setBelow (polledIn polls) q) (readPoll (drop (at + 2 + 4 * q) file) .value) ≡ pollPasses most polls q
+  pub poll-rules : (most q : ℕ) → most < mostBookings → q < p → pollTest most (setBelow (polledIn polls) q) (readPoll (drop (at + 2 + 4 * q) sections) .value) ≡ pollPasses most polls q
   unfolding pollPasses
   poll-rules most q few u =
       ap (pollTest most (setBelow (polledIn polls) q)) (sym (poll-at q u))
@@ -129,7 +129,7 @@ module _ (file : List ℕ) (at p : ℕ) (fp : p < 65536) (e : drop at file ≡ n
     ruled qs = all (pollPasses most qs) (length qs)
 
     -- polls by the rules, with nothing behind them
-    module _ (claim : PollsGood most (drop at file)) where
+    module _ (claim : PollsGood most (drop at sections)) where
       polls-laid : rows ≡ joined pollBytes polls
       polls-laid =
           let section = claim .laid ∙ ap pollsSection polls-are in
@@ -140,18 +140,18 @@ module _ (file : List ℕ) (at p : ℕ) (fp : p < 65536) (e : drop at file ≡ n
           let alone = polls-laid ∙ sym (append-nil (joined pollBytes polls)) in
           alone ∙ ap (λ t. joined pollBytes polls ++ t) (sym (left-is (joined pollBytes) (readMany readPoll p) (many-leave pollBytes readPoll poll-leaves p) rows [] alone))
 
-      pub polls-end : at + 2 ≤ length file → length file ≡ at + 2 + 4 * p
-      polls-end u = omega (arith, ap length polls-laid, polls-long, length-drop (at + 2) file)
+      pub polls-end : at + 2 ≤ length sections → length sections ≡ at + 2 + 4 * p
+      polls-end u = omega (arith, ap length polls-laid, polls-long, length-drop (at + 2) sections)
 
-      pub polls-row : (q : ℕ) → q < p → Holds pollBytes readPoll (drop (at + 2 + 4 * q) file)
+      pub polls-row : (q : ℕ) → q < p → Holds pollBytes readPoll (drop (at + 2 + 4 * q) sections)
       polls-row q u = rw (poll-there q) at (holds-row pollBytes readPoll poll-leaves p q rows u polls-hold)
 
       pub polls-rule : (q : ℕ) → q < p → pollPasses most polls q ≡ true
       polls-rule q u = all→ (pollPasses most polls) (length polls) (sym (ap ruled polls-are) ∙ claim .rules) q (omega (arith, polls-many))
 
-    pub polls-whole : HoldsMany pollBytes readPoll p rows → all (pollPasses most polls) p ≡ true → length file ≤ at + 2 + 4 * p → PollsGood most (drop at file)
+    pub polls-whole : HoldsMany pollBytes readPoll p rows → all (pollPasses most polls) p ≡ true → length sections ≤ at + 2 + 4 * p → PollsGood most (drop at sections)
     polls-whole laid rules past =
-        let nothing : readMany readPoll p rows .rest ≡ [] = poll-there p ∙ drop-of-length-le file past in
+        let nothing : readMany readPoll p rows .rest ≡ [] = poll-there p ∙ drop-of-length-le sections past in
         record {
           laid = e ∙ ap₂ (λ n t. numberBytes n ++ t) (sym polls-many) (laid ∙ ap (λ t. joined pollBytes polls ++ t) nothing ∙ append-nil (joined pollBytes polls)) ∙ ap pollsSection (sym polls-are);
           rules = ap ruled polls-are ∙ ap (all (pollPasses most polls)) polls-many ∙ rules;

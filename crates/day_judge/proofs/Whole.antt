@@ -1,77 +1,32 @@
 -- A file is good exactly if its parts are: the setting, the bookings behind their count, and the polls behind the bookings.
 -- Rests on specs/Parts.antt. Assumes nothing.
 use mathlib.Core.Path.{_≡_, sym, ap, ap₂, _∙_}
-use mathlib.Core.Bool.{Bool, true, false, _&&_, true≢false}
+use mathlib.Core.Bool.{Bool, true, _&&_}
 use mathlib.Core.List.{List, _++_, append-assoc}
 use Prim.Native.Nat.{ℕ, zero, suc, _+_, _<_, _≤_}
 use native.Mathlib.Omega.{arith}
 use lib.ListN.{length, drop}
-use lib.Seq.{drop-drop, drop-at}
+use lib.Seq.{drop-append-seam}
 use Rattle.loops.specs.Search.{all}
 use Rattle.loops.proofs.Bools.{and-left, and-right, and-both}
 use Rattle.loops.proofs.Search.{all→}
-use Rattle.terms.specs.declared.setting.Setting.{Setting}
-use Rattle.terms.specs.Setting.{settingOf, settingNumbers, isGood}
+use Rattle.terms.specs.Setting.{isGood}
 use Rattle.terms.specs.Answers.{isTaken}
 use Rattle.rules.specs.Layout.{mostBookings}
 use Rattle.day_file.specs.Day.{DayBooking, DayPoll, Day, bookingIn}
-use Rattle.day_file.specs.Bytes.{highFirst, numberBytes, joined, settingSection, bookingBytes, bookingsSection, pollsSection, encode}
-use Rattle.day_file.specs.Decode.{Read, readNumber, readMany, readCounted, readSetting, readBooking, readPoll, decode}
+use Rattle.day_file.specs.Bytes.{numberBytes, joined, settingSection, bookingBytes, bookingsSection, pollsSection, encode}
+use Rattle.day_file.specs.Decode.{Read, readMany, readCounted, readSetting, readBooking, readPoll, decode}
 use Rattle.day_file.specs.Replay.{sameBytes, replay, goodFile}
 use Rattle.day_file.specs.DayRules.{nameFree, bookingPasses, pollPasses, dayGood}
-use Rattle.day_file.proofs.Joined.{length-highFirst, length-joined-even}
-use Rattle.day_file.proofs.Lengths.{length-settingSection, length-encode}
-use Rattle.day_file.proofs.Codec.{setting-undone}
+use Rattle.day_file.proofs.Lengths.{length-encode}
 use Rattle.day_file.proofs.ReadMany.{length-readMany}
 use Rattle.day_file.proofs.SameBytes.{same-bytes, bytes-same}
 use Rattle.promises.proofs.Replayed.{replay-good}
-use Rattle.day_judge.specs.Parts.{SettingGood, behind, fieldsGood, parentsGood, rowGood, BookingsGood, PollsGood}
-use Rattle.day_judge.specs.Judged.{Decides}
+use Rattle.day_judge.specs.Parts.{settingEnd, SettingGood, behind, fieldsGood, parentsGood, rowGood, BookingsGood, PollsGood}
 use Rattle.day_judge.proofs.Walk.{left-is, many-leave}
 use Rattle.day_judge.proofs.Rules.{booking-rules, fields-number}
-use Rattle.day_judge.proofs.Rows.{number-leaves, number-read, booking-leaves}
-
--- ---- the setting
-
--- four numbers stand behind their count
-setting-count : (file : List ℕ) → SettingGood file → readNumber file .value ≡ 4
-setting-count file good =
-    let s = readSetting file .value in
-    ap (λ (m : Read ℕ). m .value) (number-read 4 (omega arith) (good .laid ∙ append-assoc (numberBytes 4) (joined numberBytes (settingNumbers s)) (drop 10 file)))
-
-setting-left : (file : List ℕ) → SettingGood file → readSetting file .rest ≡ drop 10 file
-setting-left file good =
-    let numbers = readMany readNumber 4 (drop 2 file) .value in
-    let long : length (joined numberBytes numbers) ≡ 8 = omega (arith, length-joined-even numberBytes 2 (length-highFirst 2) numbers, length-readMany readNumber 4 (drop 2 file)) in
-    ap (λ c. readMany readNumber c (drop 2 file) .rest) (setting-count file good) ∙ many-leave numberBytes readNumber number-leaves 4 (drop 2 file)
-    ∙ ap (λ k. drop k (drop 2 file)) long ∙ drop-drop 8 2 file
-
--- another count
-pub setting-refused : (file : List ℕ) (n : ℕ) → n < 65536 → file ≡ numberBytes n ++ drop 2 file → (n ≡ 4 → ⊥) → SettingGood file → ⊥
-setting-refused file n small e other good = other (sym (ap (λ (m : Read ℕ). m .value) (number-read n small e)) ∙ setting-count file good)
-
--- the numbers that were read are the setting
-module _ (file : List ℕ) (k a beta1 beta2 : ℕ) (fk : k < 65536) (fa : a < 65536) (f1 : beta1 < 65536) (f2 : beta2 < 65536)
-    (e : file ≡ numberBytes 4 ++ drop 2 file) (ek : drop 2 file ≡ numberBytes k ++ drop 4 file) (ea : drop 4 file ≡ numberBytes a ++ drop 6 file)
-    (e1 : drop 6 file ≡ numberBytes beta1 ++ drop 8 file) (e2 : drop 8 file ≡ numberBytes beta2 ++ drop 10 file) where
-  abbrev setting : Setting
-  setting = settingOf k a beta1 beta2
-
-  setting-laid : file ≡ settingSection setting ++ drop 10 file
-  unfolding joined highFirst
-  setting-laid =
-      e ∙ ap (λ l. numberBytes 4 ++ l) (ek ∙ ap (λ l. numberBytes k ++ l) (ea ∙ ap (λ l. numberBytes a ++ l) (e1 ∙ ap (λ l. numberBytes beta1 ++ l) e2)))
-
-  setting-is : readSetting file .value ≡ setting
-  setting-is =
-      ap (λ l. readSetting l .value) setting-laid
-      ∙ ap (λ (m : Read Setting). m .value) (setting-undone .undoes setting (record { k = fk; a = fa; beta1 = f1; beta2 = f2 }) (drop 10 file))
-
-  pub setting-decides : (t : Bool) → t ≡ isGood setting → Decides t (SettingGood file)
-  setting-decides t told = record {
-    yes = λ y. record { laid = setting-laid ∙ ap (λ s. settingSection s ++ drop 10 file) (sym setting-is); rules = ap isGood setting-is ∙ sym told ∙ y };
-    no = λ n good. true≢false (sym (good .rules) ∙ ap isGood setting-is ∙ sym told ∙ n);
-  }
+use Rattle.day_judge.proofs.Rows.{number-read, booking-leaves}
+use Rattle.day_judge.proofs.Settings.{setting-left}
 
 -- ---- the bookings
 
@@ -122,9 +77,9 @@ module _ (d : Day) where
   unfolding encode
   encode-setting = append-assoc (settingSection (d .setting)) (bookingsSection (d .bookings)) (pollsSection (d .polls))
 
-  encode-left : (file : List ℕ) → encode d ≡ file → drop 10 file ≡ behindSetting
+  encode-left : (file : List ℕ) → encode d ≡ file → drop (length (settingSection (d .setting))) file ≡ behindSetting
   encode-left file e =
-      ap (drop 10) (sym e ∙ encode-setting) ∙ drop-at (settingSection (d .setting)) behindSetting 10 (length-settingSection (d .setting))
+      ap (drop (length (settingSection (d .setting)))) (sym e ∙ encode-setting) ∙ drop-append-seam (settingSection (d .setting)) behindSetting
 
   bookings-counted : behindSetting ≡ numberBytes (length (d .bookings)) ++ (joined bookingBytes (d .bookings) ++ pollsSection (d .polls))
   bookings-counted = append-assoc (numberBytes (length (d .bookings))) (joined bookingBytes (d .bookings)) (pollsSection (d .polls))
@@ -153,13 +108,13 @@ module _ (file : List ℕ) (good : goodFile file ≡ true) where
         rules = setting-ruled d good-rules;
       }
 
--- where the count of the bookings was read
-module _ (file : List ℕ) (n : ℕ) (small : n < 65536) (e : drop 10 file ≡ numberBytes n ++ drop 12 file) where
+-- the sections behind the setting, where the count of the bookings was read
+module _ (file sections : List ℕ) (here : sections ≡ drop (settingEnd file) file) (n : ℕ) (small : n < 65536) (e : sections ≡ numberBytes n ++ drop 2 sections) where
   abbrev bookings : List DayBooking
-  bookings = readMany readBooking n (drop 12 file) .value
+  bookings = readMany readBooking n (drop 2 sections) .value
 
   abbrev polls : List DayPoll
-  polls = readCounted readPoll (behind (drop 12 file) n) .value
+  polls = readCounted readPoll (behind (drop 2 sections) n) .value
 
   -- the day that it is read as
   abbrev day : Day
@@ -169,12 +124,12 @@ module _ (file : List ℕ) (n : ℕ) (small : n < 65536) (e : drop 10 file ≡ n
   dayBy b = record { setting = readSetting file .value; bookings = b .value; polls = readCounted readPoll (b .rest) .value }
 
   many : length bookings ≡ n
-  many = length-readMany readBooking n (drop 12 file)
+  many = length-readMany readBooking n (drop 2 sections)
 
   day-is : SettingGood file → decode file ≡ day
   unfolding decode
   day-is good =
-      ap (λ t. dayBy (readCounted readBooking t)) (setting-left file good) ∙ ap (λ (c : Read ℕ). dayBy (readMany readBooking (c .value) (c .rest))) (number-read n small e)
+      ap (λ t. dayBy (readCounted readBooking t)) (setting-left file good ∙ sym here) ∙ ap (λ (c : Read ℕ). dayBy (readMany readBooking (c .value) (c .rest))) (number-read n small e)
 
   module _ (good : goodFile file ≡ true) where
     day-bytes : encode day ≡ file
@@ -183,33 +138,33 @@ module _ (file : List ℕ) (n : ℕ) (small : n < 65536) (e : drop 10 file ≡ n
     day-rules : dayGood day ≡ true
     day-rules = ap dayGood (sym (day-is (good-setting file good))) ∙ good-rules file good
 
-    bookings-laid : drop 12 file ≡ joined bookingBytes bookings ++ pollsSection polls
+    bookings-laid : drop 2 sections ≡ joined bookingBytes bookings ++ pollsSection polls
     bookings-laid =
         ap (λ (m : Read ℕ). m .rest)
-        (sym (number-read n small e) ∙ number-read (length bookings) (omega (arith, many)) (encode-left day file day-bytes ∙ bookings-counted day))
+        (sym (number-read n small e) ∙ number-read (length bookings) (omega (arith, many)) (here ∙ encode-left day file day-bytes ∙ bookings-counted day))
 
-    polls-left : behind (drop 12 file) n ≡ pollsSection polls
-    polls-left = left-is (joined bookingBytes) (readMany readBooking n) (many-leave bookingBytes readBooking booking-leaves n) (drop 12 file) (pollsSection polls) bookings-laid
+    polls-left : behind (drop 2 sections) n ≡ pollsSection polls
+    polls-left = left-is (joined bookingBytes) (readMany readBooking n) (many-leave bookingBytes readBooking booking-leaves n) (drop 2 sections) (pollsSection polls) bookings-laid
 
-    pub good-bookings : BookingsGood (drop 12 file) n
+    pub good-bookings : BookingsGood (drop 2 sections) n
     good-bookings = record {
       laid = bookings-laid ∙ ap (λ t. joined bookingBytes bookings ++ t) (sym polls-left);
       rules = sym (ap (all (bookingPasses bookings)) many) ∙ bookings-ruled day day-rules;
     }
 
-    pub good-polls : PollsGood n (behind (drop 12 file) n)
+    pub good-polls : PollsGood n (behind (drop 2 sections) n)
     good-polls = record {
       laid = polls-left;
       rules = sym (ap (λ m. all (pollPasses m polls) (length polls)) many) ∙ polls-ruled day day-rules;
     }
 
-  pub file-good : SettingGood file → BookingsGood (drop 12 file) n → PollsGood n (behind (drop 12 file) n) → goodFile file ≡ true
+  pub file-good : SettingGood file → BookingsGood (drop 2 sections) n → PollsGood n (behind (drop 2 sections) n) → goodFile file ≡ true
   unfolding goodFile
   file-good setting booked polled =
-      let counted-laid : behindSetting day ≡ drop 10 file =
+      let counted-laid : behindSetting day ≡ sections =
       bookings-counted day
       ∙ ap₂ (λ m t. numberBytes m ++ t) many (ap (λ t. joined bookingBytes bookings ++ t) (sym (polled .laid)) ∙ sym (booked .laid)) ∙ sym e in
-      let bytes : encode day ≡ file = encode-setting day ∙ ap (λ t. settingSection (readSetting file .value) ++ t) counted-laid ∙ sym (setting .laid) in
+      let bytes : encode day ≡ file = encode-setting day ∙ ap (λ t. settingSection (readSetting file .value) ++ t) (counted-laid ∙ here) ∙ sym (setting .laid) in
       let rules : dayGood day ≡ true =
       all-ruled day (setting .rules) (ap (all (bookingPasses bookings)) many ∙ booked .rules) (ap (λ m. all (pollPasses m polls) (length polls)) many ∙ polled .rules) in
       and-both (sameBytes (encode (decode file)) file) (isTaken (replay (decode file) .answer))

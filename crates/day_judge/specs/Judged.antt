@@ -8,41 +8,53 @@ use lib.ListN.{length, drop}
 use Rattle.day_file.specs.Day.{DayBooking}
 use Rattle.day_file.specs.Bytes.{numberBytes, counted, bookingBytes}
 use Rattle.day_file.specs.Decode.{readBooking}
-use Rattle.day_judge.specs.Parts.{HoldsMany, behind, rowGood, BookingsGood}
+use Rattle.day_judge.specs.Parts.{settingEnd, SettingGood, HoldsMany, behind, rowGood, BookingsGood}
 
 -- where the test passes the claim holds, and where it fails the claim doesn't
 pub record Decides (test : Bool) (claim : Type 0) : Type 0 where
   pub yes : test ≡ true → claim
   pub no : test ≡ false → claim → ⊥
 
--- a place in the file behind its first j bookings, whose bytes it holds
-pub record Walked (file : List ℕ) (j at : ℕ) : Type 0 where
-  pub laid : HoldsMany bookingBytes readBooking j (drop 12 file)
-  pub there : behind (drop 12 file) j ≡ drop at file
-  pub past : 12 ≤ at
-  pub within : at ≤ length file
+-- it is good, and its section ends at the offset
+pub record SettingEnds (file : List ℕ) (next : ℕ) : Type 0 where
+  pub good : SettingGood file
+  pub end : next ≡ settingEnd file
+  pub most : next ≤ 12
+
+pub record SettingJudged (file : List ℕ) (r : ℕ) : Type 0 where
+  pub good : r ≢ 0 → SettingEnds file r
+  pub bad : r ≡ 0 → SettingGood file → ⊥
+
+-- ---- the sections behind the setting: how many bookings, the bookings, how many polls, the polls
+
+-- a place in them behind the first j bookings, whose bytes they hold
+pub record Walked (sections : List ℕ) (j at : ℕ) : Type 0 where
+  pub laid : HoldsMany bookingBytes readBooking j (drop 2 sections)
+  pub there : behind (drop 2 sections) j ≡ drop at sections
+  pub past : 2 ≤ at
+  pub within : at ≤ length sections
 
 -- the booking that is read from an offset on
 abbrev pub bookingFrom : List ℕ → ℕ → DayBooking
-bookingFrom file at = readBooking (drop at file) .value
+bookingFrom sections at = readBooking (drop at sections) .value
 
--- it is by the rules, but that of its name, and its bytes behind the name are the file's up to the next offset
-pub record RowEnds (file : List ℕ) (at j next : ℕ) : Type 0 where
-  pub rules : rowGood j (bookingFrom file at) ≡ true
-  pub laid : drop (at + 8) file ≡ numberBytes (bookingFrom file at .slot) ++ (counted numberBytes (bookingFrom file at .parents) ++ drop next file)
+-- it is by the rules, but that of its name, and its bytes behind the name stand up to the next offset
+pub record RowEnds (sections : List ℕ) (at j next : ℕ) : Type 0 where
+  pub rules : rowGood j (bookingFrom sections at) ≡ true
+  pub laid : drop (at + 8) sections ≡ numberBytes (bookingFrom sections at .slot) ++ (counted numberBytes (bookingFrom sections at .parents) ++ drop next sections)
   pub past : at + 12 ≤ next
-  pub within : next ≤ length file
+  pub within : next ≤ length sections
 
 -- 0 where a rule is broken or bytes are missing
-pub record RowJudged (file : List ℕ) (at j r : ℕ) : Type 0 where
-  pub good : r ≢ 0 → RowEnds file at j r
-  pub bad : r ≡ 0 → rowGood j (bookingFrom file at) ≡ true → length file < at + length (bookingBytes (bookingFrom file at))
+pub record RowJudged (sections : List ℕ) (at j r : ℕ) : Type 0 where
+  pub good : r ≢ 0 → RowEnds sections at j r
+  pub bad : r ≡ 0 → rowGood j (bookingFrom sections at) ≡ true → length sections < at + length (bookingBytes (bookingFrom sections at))
 
 -- all bookings are by the rules, and their bytes end at the offset
-pub record BookingsEnd (file : List ℕ) (n next : ℕ) : Type 0 where
-  pub good : BookingsGood (drop 12 file) n
-  pub walked : Walked file n next
+pub record BookingsEnd (sections : List ℕ) (n next : ℕ) : Type 0 where
+  pub good : BookingsGood (drop 2 sections) n
+  pub walked : Walked sections n next
 
-pub record BookingsJudged (file : List ℕ) (n r : ℕ) : Type 0 where
-  pub good : r ≢ 0 → BookingsEnd file n r
-  pub bad : r ≡ 0 → BookingsGood (drop 12 file) n → ⊥
+pub record BookingsJudged (sections : List ℕ) (n r : ℕ) : Type 0 where
+  pub good : r ≢ 0 → BookingsEnd sections n r
+  pub bad : r ≡ 0 → BookingsGood (drop 2 sections) n → ⊥

@@ -25,8 +25,12 @@ HoldsMany bytes read n = Holds (joined bytes) (readMany read n)
 
 -- ---- the setting
 
+-- where its section ends, if its bytes are the file's
+abbrev pub settingEnd : List ℕ → ℕ
+settingEnd file = length (settingSection (readSetting file .value))
+
 pub record SettingGood (file : List ℕ) : Type 0 where
-  pub laid : file ≡ settingSection (readSetting file .value) ++ drop 10 file
+  pub laid : file ≡ settingSection (readSetting file .value) ++ drop (settingEnd file) file
   pub rules : isGood (readSetting file .value) ≡ true
 
 -- ---- the bookings, read off the bytes behind their count

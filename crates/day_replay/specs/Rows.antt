@@ -2,15 +2,21 @@
 -- shows that the calls of the law leave the same.
 use Prim.Native.Nat.{ℕ, _<_, _≤_}
 use mathlib.Core.Path.{_≡_}
-use mathlib.Core.List.{List}
+use mathlib.Core.List.{List, _++_}
 use lib.ListN.{length, drop}
 use Rattle.rules.specs.Layout.{mostBookings, mostParents, slots, bookings, stateOf}
 use Rattle.rules.specs.Sound.{Ledger}
 use Rattle.rules.specs.Book.{bookedWith}
 use Rattle.rules.specs.Poll.{polledBy}
-use Rattle.day_file.specs.Day.{DayBooking, DayPoll}
+use Rattle.day_file.specs.Day.{DayBooking, DayPoll, Day}
+use Rattle.day_file.specs.Bytes.{bookingsSection, pollsSection}
 use Rattle.day_file.specs.Decode.{Read}
 use Rattle.day_file.specs.InTurn.{places}
+
+-- ---- the file behind its setting
+
+abbrev pub behindSetting : Day → List ℕ
+behindSetting d = bookingsSection (d .bookings) ++ pollsSection (d .polls)
 
 -- ---- a booking
 

@@ -11,18 +11,42 @@ ghost use Rattle.day_file.specs.Bytes.{pollsSection};
 ghost use Rattle.day_file.specs.Decode.{readBooking, readPoll, decode};
 ghost use Rattle.day_file.specs.Replay.{replay, goodFile};
 ghost use Rattle.day_file.specs.InTurn.{rebooked, repolled};
-ghost use Rattle.day_replay.specs.Rows.{Rebookable, Repollable, rebookedOnce, repolledOnce, Replayed};
+ghost use Rattle.day_replay.specs.Rows.{behindSetting, Rebookable, Repollable, rebookedOnce, repolledOnce, Replayed};
 
-// The opening, with the file's setting.
-fn reopen(w: &mut [u16], file: &[u8])
+// The opening, with the file's setting; the offset of the bookings. Four numbers are a setting of edition 0, and the fifth of five is the edition.
+fn reopen(w: &mut [u16], file: &[u8]) -> usize
     requires { ⌜ (length (now w) ≡ size) × (goodFile (now file) ≡ true) ⌝ }
-    ensures { λ _. ⌜ now (w .exit) ≡ rebooked (decode (now (file .entry))) 0 .words ⌝ }
+    ensures { λ r. ⌜ (now (w .exit) ≡ rebooked (decode (now (file .entry))) 0 .words) × (drop r (now (file .entry)) ≡ behindSetting (decode (now (file .entry)))) ⌝ }
 {
     let k = day_get::number_at(file, bytes::K);
     let a = day_get::number_at(file, bytes::A);
     let beta1 = day_get::number_at(file, bytes::BETA1);
     let beta2 = day_get::number_at(file, bytes::BETA2);
-    open_writes::write_open(w, Setting { k, a, beta1, beta2 });
+    if day_get::number_at(file, 0) == bytes::FIRST_NUMBERS {
+        open_writes::write_open(
+            w,
+            Setting {
+                k,
+                a,
+                beta1,
+                beta2,
+                edition: Setting::FIRST_EDITION,
+            },
+        );
+        return bytes::FIRST_END;
+    }
+    let edition = day_get::number_at(file, bytes::EDITION);
+    open_writes::write_open(
+        w,
+        Setting {
+            k,
+            a,
+            beta1,
+            beta2,
+            edition,
+        },
+    );
+    bytes::LATER_END
 }
 
 // Books what stands at an offset, and gives the offset behind it.
@@ -39,12 +63,12 @@ fn rebook(w: &mut [u16], file: &[u8], at: usize) -> usize
 }
 
 // Each booking, behind their count; the offset of the polls.
-fn rebook_all(w: &mut [u16], file: &[u8]) -> usize
-    requires { ⌜ (now w ≡ rebooked (decode (now file)) 0 .words) × (goodFile (now file) ≡ true) ⌝ }
+fn rebook_all(w: &mut [u16], file: &[u8], start: usize) -> usize
+    requires { ⌜ (now w ≡ rebooked (decode (now file)) 0 .words) × (goodFile (now file) ≡ true) × (drop start (now file) ≡ behindSetting (decode (now file))) ⌝ }
     ensures { λ r. ⌜ (now (w .exit) ≡ repolled (decode (now (file .entry))) 0 .words) × (drop r (now (file .entry)) ≡ pollsSection (decode (now (file .entry)) .polls)) ⌝ }
 {
-    let count = words::wide(day_get::number_at(file, bytes::BOOKINGS_COUNT));
-    let mut at = bytes::BOOKINGS;
+    let count = words::wide(day_get::number_at(file, start));
+    let mut at = start + bytes::NUMBER_BYTES;
     for j in 0..count {
         at = rebook(w, file, at);
     }
@@ -79,7 +103,7 @@ pub fn replay(w: &mut [u16], file: &[u8])
     requires { ⌜ (length (now w) ≡ size) × (goodFile (now file) ≡ true) ⌝ }
     ensures { λ _. ⌜ now (w .exit) ≡ replay (decode (now (file .entry))) .words ⌝ }
 {
-    reopen(w, file);
-    let at = rebook_all(w, file);
+    let start = reopen(w, file);
+    let at = rebook_all(w, file, start);
     repoll_all(w, file, at);
 }

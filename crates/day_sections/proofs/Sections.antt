@@ -1,24 +1,83 @@
--- What the loops over bookings and records write is a section: its count, and then each of its rows.
-use mathlib.Core.Path.{_≡_, sym, ap, _∙_}
-use mathlib.Core.List.{List, _++_}
+-- What is written of a setting is a section, in both editions, and so is what the loops over bookings and records write: its count, and then each of its rows.
+use mathlib.Core.Path.{_≡_, refl, sym, ap, ap₂, subst, _∙_}
+use mathlib.Core.Bool.{cond}
+use mathlib.Core.List.{List, [], _∷_, _++_, append-nil}
+use mathlib.Core.Logic.{_≢_}
 use Prim.Native.Nat.{ℕ, _+_, _*_, _≤_}
 use native.Mathlib.Omega.{arith}
 use lib.ListN.{length}
 use lib.Seq.{sets}
+use borrow.Author.Tests.{eq-eqb, ne-eqb}
 use Rattle.loops.specs.Turns.{upTo}
 use Rattle.loops.specs.Fill.{from}
 use Rattle.loops.specs.Total.{total}
 use Rattle.loops.proofs.Fill.{length-from}
-use Rattle.rules.specs.Layout.{bookings, polls}
+use Rattle.terms.specs.declared.setting.Setting.{Setting}
+use Rattle.terms.specs.Setting.{settingNumbers}
+use Rattle.rules.specs.Layout.{kField, header, bookings, settingIn, polls}
 use Rattle.rules.specs.Sound.{Ledger}
 use Rattle.put.specs.Put.{Put}
 use Rattle.put.proofs.Puts.{put-none, put-then, put-past, put-length, sets-append}
 use Rattle.day_file.specs.Day.{bookingAt, holder, pollOf}
-use Rattle.day_file.specs.Bytes.{highFirst, numberBytes, joined, bookingBytes, bookingsSection, pollBytes, pollsSection}
-use Rattle.day_file.specs.InTurn.{bookingLength, pairAt}
-use Rattle.day_file.proofs.Joined.{joined-more}
-use Rattle.day_file.proofs.Lengths.{length-bookings}
+use Rattle.day_file.specs.Bytes.{highFirst, numberBytes, joined, settingSection, bookingBytes, bookingsSection, pollBytes, pollsSection}
+use Rattle.day_file.specs.InTurn.{editionLength, bookingLength, pairAt}
+use Rattle.day_file.proofs.Joined.{joined-append, joined-more, length-highFirst, length-joined-even}
+use Rattle.day_file.proofs.Lengths.{length-settingNumbers, length-bookings}
 use Rattle.day_file.proofs.Polls.{polls-in-order}
+
+-- ---- the setting
+
+module _ (s : Setting) where
+  -- without the edition
+  abbrev pub four : List ℕ
+  four = s .k ∷ s .a ∷ s .beta1 ∷ s .beta2 ∷ []
+
+  first-told : s .edition ≡ 0 → settingNumbers s ≡ four
+  first-told e = ap (λ b. s .k ∷ s .a ∷ s .beta1 ∷ s .beta2 ∷ cond b [] (s .edition ∷ [])) (eq-eqb (s .edition) 0 e)
+
+  later-told : s .edition ≢ 0 → settingNumbers s ≡ four ++ (s .edition ∷ [])
+  later-told d = ap (λ b. s .k ∷ s .a ∷ s .beta1 ∷ s .beta2 ∷ cond b [] (s .edition ∷ [])) (ne-eqb (s .edition) 0 d)
+
+  -- how many numbers there are
+  pub first-count : s .edition ≡ 0 → length (settingNumbers s) ≡ 4
+  first-count e = ap length (first-told e)
+
+  pub later-count : s .edition ≢ 0 → length (settingNumbers s) ≡ 5
+  later-count d = ap length (later-told d)
+
+  -- where the edition stands, and that it has room there
+  pub four-past : {numbers out out′ : List ℕ} {at r : ℕ} → numbers ≡ four → Put out at (joined numberBytes numbers) r out′ → (r ≡ at + 8) × (length out′ ≡ length out)
+  four-past {numbers = numbers} e p =
+      put-past 8 (length-joined-even numberBytes 2 (length-highFirst 2) numbers ∙ ap (λ l. 2 * length l) e) p
+
+  pub later-room : s .edition ≢ 0 → editionLength (s .edition) ≡ 2
+  later-room d = omega (arith, later-count d, length-settingNumbers s)
+
+  -- the count, and as many numbers behind it as it says
+  numbers-put : {count : ℕ} {rest out out′ : List ℕ} {n : ℕ} → count ≡ length (settingNumbers s) → rest ≡ joined numberBytes (settingNumbers s)
+      → Put out 0 (numberBytes count ++ rest) n out′ → Put out 0 (settingSection s) n out′
+  numbers-put {out = out} {out′ = out′} {n = n} e f p = subst (λ l. Put out 0 l n out′) (ap₂ (λ c l. numberBytes c ++ l) e f) p
+
+  pub first-put : s .edition ≡ 0 → {count : ℕ} {numbers out out₁ out₂ : List ℕ} {m n : ℕ} → count ≡ length (settingNumbers s) → numbers ≡ four
+      → Put out 0 (numberBytes count) m out₁ → Put out₁ m (joined numberBytes numbers) n out₂ → Put out 0 (settingSection s) n out₂
+  first-put first e f p q = numbers-put e (ap (joined numberBytes) (f ∙ sym (first-told first))) (put-then p q)
+
+  pub later-put : s .edition ≢ 0 → {count edition : ℕ} {numbers out out₁ out₂ out₃ : List ℕ} {m n r : ℕ} → count ≡ length (settingNumbers s) → numbers ≡ four
+      → edition ≡ s .edition → Put out 0 (numberBytes count) m out₁ → Put out₁ m (joined numberBytes numbers) n out₂ → Put out₂ n (numberBytes edition) r out₃
+      → Put out 0 (settingSection s) r out₃
+  unfolding joined
+  later-put later {edition = edition} {numbers = numbers} e f g p q t =
+      let told : numbers ++ (edition ∷ []) ≡ settingNumbers s = ap₂ (λ l v. l ++ (v ∷ [])) f g ∙ sym (later-told later) in
+      let last : joined numberBytes numbers ++ numberBytes edition ≡ joined numberBytes (settingNumbers s) =
+      ap (λ l. joined numberBytes numbers ++ l) (sym (append-nil (numberBytes edition)))
+      ∙ sym (joined-append numberBytes numbers (edition ∷ []))
+      ∙ ap (joined numberBytes) told in
+      numbers-put e last (put-then p (put-then q t))
+
+-- the words that stand beside each other
+pub four-words : (w : List ℕ) → from (header w) kField 4 ≡ four (settingIn w)
+unfolding from
+four-words w = refl
 
 -- ---- bookings
 

@@ -1,5 +1,6 @@
 // The sections of the day file, on words that are known to be a ledger: each is written to the front of what it is lent, and every byte past it stays.
 // And how long the whole file is.
+use day_file::bytes;
 use rules::layout;
 ghost use mathlib.Core.Path.{_≡_};
 ghost use Prim.Native.Nat.{_+_, _*_, _-_, _≤_};
@@ -7,15 +8,24 @@ ghost use lib.ListN.{length};
 ghost use lib.Seq.{sets};
 ghost use Rattle.loops.specs.Fill.{from};
 ghost use Rattle.loops.specs.Total.{total};
+ghost use Rattle.terms.specs.Setting.{settingNumbers};
 ghost use Rattle.rules.specs.Layout.{size, bookings, settingIn, polls};
 ghost use Rattle.rules.specs.Sound.{Ledger};
 ghost use Rattle.put.specs.Put.{Put};
 ghost use Rattle.day_file.specs.Day.{bookingAt, pollOf, holder};
 ghost use Rattle.day_file.specs.Bytes.{settingSection, bookingsSection, pollsSection, dayFile};
-ghost use Rattle.day_file.specs.InTurn.{bookingLength};
+ghost use Rattle.day_file.specs.InTurn.{editionLength, bookingLength};
 
-// The setting has four numbers.
-const SETTING: u16 = 4;
+// How many numbers tell the setting: edition 0 is not written.
+fn setting_numbers(w: &[u16]) -> u16
+    requires { ⌜ length (now w) ≡ size ⌝ }
+    ensures { λ r. ⌜ r ≡ length (settingNumbers (settingIn (now (w .entry)))) ⌝ }
+{
+    if words::header(w, layout::EDITION) == 0 {
+        return bytes::FIRST_NUMBERS;
+    }
+    bytes::LATER_NUMBERS
+}
 
 // Three counts and the setting, 12 bytes and its parents for each booking, and 4 for each poll.
 pub fn file_length(w: &[u16]) -> usize
@@ -24,20 +34,26 @@ pub fn file_length(w: &[u16]) -> usize
 {
     let n = words::wide(words::header(w, layout::BOOKINGS));
     let p = words::wide(words::header(w, layout::POLLS));
+    let numbers = words::wide(setting_numbers(w));
     let mut rows = 0;
     for j in 0..n - 1 {
         rows = rows + (12 + 2 * day_rows::parent_count(w, j + 1));
     }
-    14 + rows + 4 * p
+    6 + 2 * numbers + rows + 4 * p
 }
 
-// The first: 4, and the setting.
+// The first: how many numbers tell the setting, and each of them. The edition is the last.
 pub fn put_setting(w: &[u16], out: &mut [u8]) -> usize
-    requires { ⌜ (length (now w) ≡ size) × (10 ≤ length (now out)) ⌝ }
+    requires { ⌜ (length (now w) ≡ size) × (10 + editionLength (settingIn (now w) .edition) ≤ length (now out)) ⌝ }
     ensures { λ r. ⌜ Put (now (out .entry)) 0 (settingSection (settingIn (now (w .entry)))) r (now (out .exit)) ⌝ }
 {
-    let next = day_put::put_number(out, 0, SETTING);
-    day_put::put_numbers(out, next, words::setting(w))
+    let next = day_put::put_number(out, 0, setting_numbers(w));
+    let end = day_put::put_numbers(out, next, words::setting(w));
+    let edition = words::header(w, layout::EDITION);
+    if edition == 0 {
+        return end;
+    }
+    day_put::put_number(out, end, edition)
 }
 
 // The second: how many bookings there are beside the genesis, and each of them.

@@ -20,7 +20,7 @@ use Rattle.put.specs.Put.{Put}
 use Rattle.put.proofs.Puts.{put-then, put-past, put-length, around, remains, length-remains, sets-remains, put-remains, sets-append}
 use Rattle.day_file.specs.Day.{bookingAt, holder, pollOf, dayOf}
 use Rattle.day_file.specs.Bytes.{bookingBytes, settingSection, bookingsSection, pollsSection, encode, dayFile}
-use Rattle.day_file.specs.InTurn.{bookingLength}
+use Rattle.day_file.specs.InTurn.{editionLength, bookingLength}
 use Rattle.day_file.specs.Calls.{laid, writeFirstCall}
 use Rattle.day_file.proofs.Joined.{length-counted}
 use Rattle.day_file.proofs.Lengths.{length-settingSection, length-bookings, length-dayFile}
@@ -50,12 +50,12 @@ module _ (w : List ℕ) where
 
       -- ---- the room of each section
 
-      pub room-first : 10 ≤ length out
+      pub room-first : 10 + editionLength (settingIn w .edition) ≤ length out
       room-first = omega (arith, length-dayFile w)
 
       module _ {out₁ : List ℕ} {at : ℕ} (p : Put out 0 first at out₁) where
-        pub after-first : (at ≡ 0 + 10) × (length out₁ ≡ length out)
-        after-first = put-past 10 (length-settingSection (settingIn w)) p
+        pub after-first : (at ≡ 0 + (10 + editionLength (settingIn w .edition))) × (length out₁ ≡ length out)
+        after-first = put-past (10 + editionLength (settingIn w .edition)) (length-settingSection (settingIn w)) p
 
         pub room-second : 2 + total (bookingLength w) (bookings w - 1) ≤ length (remains out₁ at)
         room-second = omega (arith, length-remains out₁ at, after-first, length-dayFile w)
@@ -64,7 +64,7 @@ module _ (w : List ℕ) where
           pub both : Put out 0 (first ++ second) (at + n) (around out₁ at rest)
           both = put-then p (put-remains out₁ at (omega (arith, after-first, length-dayFile w)) q)
 
-          pub after-second : (at + n ≡ 12 + total (bookingLength w) (bookings w - 1)) × (length (around out₁ at rest) ≡ length out)
+          pub after-second : (at + n ≡ 12 + editionLength (settingIn w .edition) + total (bookingLength w) (bookings w - 1)) × (length (around out₁ at rest) ≡ length out)
           after-second =
               let n-is = put-past (2 + total (bookingLength w) (bookings w - 1)) length-second q in
               (omega (arith, after-first, n-is .0), put-length both)

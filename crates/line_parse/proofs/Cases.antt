@@ -20,8 +20,7 @@ abbrev bad : Said
 bad = bare Bad
 
 good-lines :
-    (says "open 3 2 1 2" ≡ bare (Open (record { k = 3; a = 2; beta1 = 1; beta2 = 2 })))
-    × (says "book 4 10 1 2" ≡ record { command = Book 4 10 2; parents = 1 ∷ 2 ∷ []; votes = [] })
+    (says "book 4 10 1 2" ≡ record { command = Book 4 10 2; parents = 1 ∷ 2 ∷ []; votes = [] })
     × (says "book 4 10" ≡ bare (Book 4 10 0))
     × (says "poll 2 1 1 -1" ≡ record { command = Poll 2 3; parents = []; votes = 1 ∷ 1 ∷ 255 ∷ [] })
     × (says "poll 2" ≡ bare (Poll 2 0))
@@ -32,7 +31,42 @@ good-lines :
     × (says "size 1" ≡ bare (Read Size 1))
     × (says "list" ≡ bare ListAll)
 unfolding says lineSays words wordEnd wordsAfter valueOf isNumber numberRead voteRead isSame leading manyOf openSays readSays bookSays pollSays firstFrom upTo
-good-lines = (refl, refl, refl, refl, refl, refl, refl, refl, refl, refl, refl)
+good-lines = (refl, refl, refl, refl, refl, refl, refl, refl, refl, refl)
+
+-- `open` with four numbers: the edition is 0
+edition-untold :
+    (says "open 3 2 1 2" ≡ bare (Open (record { k = 3; a = 2; beta1 = 1; beta2 = 2; edition = 0 })))
+    × (says "open 1 1 1 1" ≡ bare (Open (record { k = 1; a = 1; beta1 = 1; beta2 = 1; edition = 0 })))
+unfolding says lineSays words wordEnd wordsAfter valueOf isNumber numberRead voteRead isSame leading manyOf openSays readSays bookSays pollSays firstFrom upTo
+edition-untold = (refl, refl)
+
+-- with five: the fifth is the edition. Whether there is such an edition is not the line's to judge.
+edition-told :
+    (says "open 3 2 1 2 0" ≡ bare (Open (record { k = 3; a = 2; beta1 = 1; beta2 = 2; edition = 0 })))
+    × (says "open 3 2 1 2 1" ≡ bare (Open (record { k = 3; a = 2; beta1 = 1; beta2 = 2; edition = 1 })))
+    × (says "open 3 2 1 2 7" ≡ bare (Open (record { k = 3; a = 2; beta1 = 1; beta2 = 2; edition = 7 })))
+    × (says "open 65535 65534 65533 65532 65535" ≡ bare (Open (record { k = 65535; a = 65534; beta1 = 65533; beta2 = 65532; edition = 65535 })))
+unfolding says lineSays words wordEnd wordsAfter valueOf isNumber numberRead voteRead isSame leading manyOf openSays readSays bookSays pollSays firstFrom upTo
+edition-told = (refl, refl, refl, refl)
+
+-- with three or six, or a fifth word that is no number
+open-counts :
+    (says "open" ≡ bad)
+    × (says "open 3 2 1" ≡ bad)
+    × (says "open 3 2 1 2 0 0" ≡ bad)
+    × (says "open 3 2 1 2 x" ≡ bad)
+    × (says "open 3 2 1 2 " ≡ bad)
+unfolding says lineSays words wordEnd wordsAfter valueOf isNumber numberRead voteRead isSame leading manyOf openSays readSays bookSays pollSays firstFrom upTo
+open-counts = (refl, refl, refl, refl, refl)
+
+-- none above 65535
+open-limits :
+    (says "open 65536 0 0 0 0" ≡ bad)
+    × (says "open 0 0 0 65536 0" ≡ bad)
+    × (says "open 3 2 1 2 65536" ≡ bad)
+    × (says "open 3 2 1 2 65537" ≡ bad)
+unfolding says lineSays words wordEnd wordsAfter valueOf isNumber numberRead voteRead isSame leading manyOf openSays readSays bookSays pollSays firstFrom upTo
+open-limits = (refl, refl, refl, refl)
 
 -- the limits of numbers: names, everything else, and twenty digits
 numbers :
@@ -45,10 +79,8 @@ numbers :
     × (says "query 1a" ≡ bad)
     × (says "book 1 65535" ≡ bare (Book 1 65535 0))
     × (says "book 1 65536" ≡ bad)
-    × (says "open 65535 0 0 0" ≡ bare (Open (record { k = 65535; a = 0; beta1 = 0; beta2 = 0 })))
-    × (says "open 65536 0 0 0" ≡ bad)
 unfolding says lineSays words wordEnd wordsAfter valueOf isNumber numberRead voteRead isSame leading manyOf openSays readSays bookSays pollSays firstFrom upTo
-numbers = (refl, refl, refl, refl, refl, refl, refl, refl, refl, refl, refl)
+numbers = (refl, refl, refl, refl, refl, refl, refl, refl, refl)
 
 -- votes: the number typed is limited, not its byte, and the sign is none of the twenty digits
 votes :
@@ -73,8 +105,6 @@ other-lines :
     × (says "List" ≡ bad)
     × (says "lists" ≡ bad)
     × (says "open  3 2 1 2" ≡ bad)
-    × (says "open 3 2 1" ≡ bad)
-    × (says "open 3 2 1 2 0" ≡ bad)
     × (says "query" ≡ bad)
     × (says "query 1 2" ≡ bad)
     × (says "query\t1" ≡ bad)
@@ -82,7 +112,7 @@ other-lines :
     × (says "book 1" ≡ bad)
     × (says "poll" ≡ bad)
 unfolding says lineSays words wordEnd wordsAfter valueOf isNumber numberRead voteRead isSame leading manyOf openSays readSays bookSays pollSays firstFrom upTo
-other-lines = (refl, refl, refl, refl, refl, refl, refl, refl, refl, refl, refl, refl, refl, refl, refl, refl)
+other-lines = (refl, refl, refl, refl, refl, refl, refl, refl, refl, refl, refl, refl, refl, refl)
 
 -- sixteen parents are taken, one more is not
 too-many :

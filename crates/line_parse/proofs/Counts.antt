@@ -24,11 +24,11 @@ use Rattle.line_keyword.specs.declared.Keyword.the-variants.{
 use Rattle.line_words.specs.Words.{words}
 use Rattle.line_number.specs.Numbers.{nameRead, shortRead, voteRead}
 use Rattle.line_keyword.specs.Keywords.{keywordOf}
-use Rattle.line_scan.specs.Lists.{openMost, parentsMost, votesMost, leading, manyOf}
+use Rattle.line_scan.specs.Lists.{parentsMost, votesMost, leading, manyOf}
 use Rattle.line_scan.proofs.Leading.{many-count, leading-length}
 use Rattle.line_parse.specs.declared.command.Command.{Command}
 use Rattle.line_parse.specs.declared.command.Command.the-variants.{Open, Book, Poll, Read, List as ListAll, Bad}
-use Rattle.line_parse.specs.Line.{nothing, Said, bare, settingTyped, openWith, openSays, readSays, bookWith, bookSays, pollWith, pollSays, keywordSays, wordsSay, lineSays}
+use Rattle.line_parse.specs.Line.{nothing, Said, bare, openLeast, openMost, settingTyped, openWith, openSays, readSays, bookWith, bookSays, pollWith, pollSays, keywordSays, wordsSay, lineSays}
 use Rattle.line_parse.proofs.Whole.{number-holds}
 
 -- the count of a booking is that of its parents, within the limit; likewise a poll's votes
@@ -58,7 +58,7 @@ unfolding openSays
 open-listless ws = go (manyOf shortRead openMost ws) (leading shortRead openMost ws)
   where
     go : (m : Many) (vs : List ℕ) → Listless (openWith m vs)
-    go (Count n) vs = pick (ltb n openMost)
+    go (Count n) vs = pick (ltb n openLeast)
       where
         pick : (t : Bool) → Listless (cond t Bad (Open (settingTyped vs)))
         pick true = bad

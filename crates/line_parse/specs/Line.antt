@@ -1,4 +1,4 @@
--- Document 01, "The text program": what a line says. The whole line is judged before any call is made.
+-- Document 01, "The text program", and CR 7: what a line says. The whole line is judged before any call is made.
 use Prim.Native.Nat.{ℕ, _≤_}
 use mathlib.Core.Path.{_≡_}
 use mathlib.Core.Bool.{cond}
@@ -27,7 +27,7 @@ use Rattle.line_keyword.specs.declared.Keyword.the-variants.{
 use Rattle.line_words.specs.Words.{words}
 use Rattle.line_number.specs.Numbers.{shortMost, nameRead, shortRead, voteRead}
 use Rattle.line_keyword.specs.Keywords.{keywordOf}
-use Rattle.line_scan.specs.Lists.{openMost, parentsMost, votesMost, leading, manyOf}
+use Rattle.line_scan.specs.Lists.{parentsMost, votesMost, leading, manyOf}
 
 -- ---- what is told from the words in turn
 
@@ -56,17 +56,31 @@ pub record Said : Type 0 where
 abbrev pub bare : Command → Said
 bare c = record { command = c; parents = []; votes = [] }
 
--- k a β1 β2
+-- how many numbers `open` has: four, or the edition behind them
+abbrev pub openLeast : ℕ
+openLeast = 4
+
+abbrev pub openMost : ℕ
+openMost = 5
+
+-- the edition where no fifth number tells it
+abbrev pub editionUntold : ℕ
+editionUntold = 0
+
+-- k a β1 β2 and the edition, or what stands for it where it is left out
+abbrev pub settingOr : ℕ → List ℕ → Setting
+settingOr untold vs = settingOf (getD vs 0 0) (getD vs 1 0) (getD vs 2 0) (getD vs 3 0) (getD vs 4 untold)
+
 abbrev pub settingTyped : List ℕ → Setting
-settingTyped vs = settingOf (getD vs 0 0) (getD vs 1 0) (getD vs 2 0) (getD vs 3 0)
+settingTyped = settingOr editionUntold
 
 -- every number of a list is short
 abbrev pub AllShort : List ℕ → Type 0
 AllShort vs = (i : ℕ) → getD vs i 0 ≤ shortMost
 
--- four of them, no fewer and no more
+-- four of them or five, no fewer and no more
 abbrev pub openWith : Many → List ℕ → Command
-openWith (Count n) vs = cond (ltb n openMost) Bad (Open (settingTyped vs))
+openWith (Count n) vs = cond (ltb n openLeast) Bad (Open (settingTyped vs))
 openWith Refused vs = Bad
 
 unfoldable pub openSays : List (List ℕ) → Command

@@ -21,7 +21,7 @@ ghost use Rattle.line_parse.specs.Line.{
   openSays,
   pollSays,
   readSays,
-  settingTyped,
+  settingOr,
 };
 
 // The largest name.
@@ -30,32 +30,39 @@ const NAME_MOST: u64 = 18446744073709551615;
 // The largest number of everything but names and votes.
 const SHORT_MOST: u64 = 65535;
 
-// Four short numbers as a setting.
-fn setting_of(four: &[u64; 4]) -> Setting
-    requires { ⌜ AllShort (now four) ⌝ }
-    ensures { λ r. ⌜ r ≡ settingTyped (now (four .entry)) ⌝ }
+// The fewest numbers of `open`.
+const OPEN_LEAST: usize = 4;
+
+// The edition where no fifth number tells it.
+const EDITION_UNTOLD: u64 = 0;
+
+// Five short numbers as a setting.
+fn setting_of(five: &[u64; 5]) -> Setting
+    requires { ⌜ AllShort (now five) ⌝ }
+    ensures { λ r. ⌜ r ≡ settingOr 0 (now (five .entry)) ⌝ }
 {
     Setting {
-        k: four[0] as u16,
-        a: four[1] as u16,
-        beta1: four[2] as u16,
-        beta2: four[3] as u16,
+        k: five[0] as u16,
+        a: five[1] as u16,
+        beta1: five[2] as u16,
+        beta2: five[3] as u16,
+        edition: five[4] as u16,
     }
 }
 
-// k, a, beta1 and beta2.
+// k, a, beta1, beta2, and the edition where it is told.
 pub(crate) fn read_open(line: &[u8], at: usize) -> Command
     requires { ⌜ at ≤ length (now line) ⌝ }
     ensures { λ r. ⌜ r ≡ openSays (wordsAfter (now (line .entry)) at) ⌝ }
 {
-    let mut four = [0u64; 4];
-    let Many::Count(count) = read_numbers(line, at, SHORT_MOST, &mut four) else {
+    let mut five = [0, 0, 0, 0, EDITION_UNTOLD];
+    let Many::Count(count) = read_numbers(line, at, SHORT_MOST, &mut five) else {
         return Command::Bad;
     };
-    if count < 4 {
+    if count < OPEN_LEAST {
         return Command::Bad;
     }
-    Command::Open(setting_of(&four))
+    Command::Open(setting_of(&five))
 }
 
 // One name.

@@ -2,13 +2,13 @@
 -- a word is no number, or the limit is reached, the words are no list.
 use mathlib.Core.Path.{_≡_, refl, sym, ap, _∙_}
 use mathlib.Core.Bool.{Bool, true, false, cond}
-use mathlib.Core.List.{List, [], _∷_, append-nil}
+use mathlib.Core.List.{List, [], _∷_, _++_}
 use Prim.Native.Nat.{ℕ, zero, suc, _+_, _-_, _<_, _≤_}
 use native.Mathlib.Nat.{sub-zero, zero-add}
 use native.Mathlib.Numerals.{add-one}
 use native.Mathlib.Omega.{arith}
-use lib.ListN.{length, getD, set}
-use lib.Seq.{sets, sets-eq, drop-length}
+use lib.ListN.{length, getD, set, drop}
+use lib.Seq.{sets, sets-eq}
 use borrow.Author.Tests.{eq-eqb, ne-eqb, eqb-true}
 use Rattle.line_number.specs.declared.Number.{Number}
 use Rattle.line_number.specs.declared.Number.the-variants.{Value, Bad}
@@ -137,26 +137,29 @@ many-count reader most ws n e = go (isList reader most ws) refl e
     go true q e = let h : length ws ≡ n = cc in omega (arith, eqb-true (length (leading reader most ws)) (length ws) q)
     go false q e = absurd (let z : _≡_ {A = ℕ} 0 1 = cc in omega arith)
 
--- each within the limit of a number
-pub leading-le : (limit most : ℕ) (ws : List (List ℕ)) (i : ℕ) → getD (leading (numberRead limit) most ws) i 0 ≤ limit
+-- each within the limit of a number, as is what stands for a number that is left out
+pub leading-le : (limit most : ℕ) (ws : List (List ℕ)) (i left : ℕ) → left ≤ limit → getD (leading (numberRead limit) most ws) i left ≤ limit
 unfolding leading
-leading-le limit zero ws i = omega arith
-leading-le limit (suc most) [] i = omega arith
-leading-le limit (suc most) (w ∷ ws) i = go (numberRead limit w) refl i (leading-le limit most ws)
+leading-le limit zero ws i left h = h
+leading-le limit (suc most) [] i left h = h
+leading-le limit (suc most) (w ∷ ws) i left h = go (numberRead limit w) refl i (λ j. leading-le limit most ws j left h)
   where
-    go : (n : Number) → numberRead limit w ≡ n → (i : ℕ) → ((j : ℕ) → getD (leading (numberRead limit) most ws) j 0 ≤ limit) → getD (ahead n (leading (numberRead limit) most ws)) i 0 ≤ limit
+    go : (n : Number) → numberRead limit w ≡ n → (i : ℕ) → ((j : ℕ) → getD (leading (numberRead limit) most ws) j left ≤ limit) → getD (ahead n (leading (numberRead limit) most ws)) i left ≤ limit
     go (Value v) e zero rest = number-le limit w v e
     go (Value v) e (suc i) rest = rest i
-    go Bad e i rest = omega arith
+    go Bad e i rest = h
 
--- a list as long as the buffer fills it
-pub sets-whole : (buffer vs : List ℕ) → length vs ≡ length buffer → sets buffer 0 vs ≡ vs
-sets-whole buffer vs e =
-    let z : 0 + length vs ≡ length buffer = omega arith in
-    sets-eq vs buffer 0 (omega arith) ∙ rw (z, drop-length buffer) (append-nil vs)
+-- a list in front of what is left of a buffer: where the list ends, the buffer goes on
+front : (vs buffer : List ℕ) (i : ℕ) → length vs ≤ length buffer → getD (vs ++ drop (length vs) buffer) i 0 ≡ getD vs i (getD buffer i 0)
+front [] buffer i h = refl
+front (v ∷ vs) [] i h = absurd (omega arith)
+front (v ∷ vs) (b ∷ buffer) zero h = refl
+front (v ∷ vs) (b ∷ buffer) (suc i) h = front vs buffer i (omega arith)
 
--- a list that is read to the buffer's end is all that the buffer then holds
-pub listed-whole : {reader : List ℕ → Number} {most : ℕ} {ws : List (List ℕ)} {buffer buffer′ : List ℕ} {r : Many}
-    → Listed reader most ws buffer r buffer′ → (n : ℕ) → r ≡ Count n → length buffer ≡ most → most ≤ n → buffer′ ≡ leading reader most ws
-listed-whole {reader} {most} {ws} {buffer} l n e b h =
-    l .after ∙ sets-whole buffer (leading reader most ws) (omega (arith, many-count reader most ws n (sym (l .many) ∙ e), leading-length reader most ws))
+-- a buffer after a list was read into it: number i of the list, and where it has none what the buffer held
+pub listed-at : {reader : List ℕ → Number} {most : ℕ} {ws : List (List ℕ)} {buffer buffer′ : List ℕ} {r : Many}
+    → Listed reader most ws buffer r buffer′ → most ≤ length buffer → (i : ℕ) → getD buffer′ i 0 ≡ getD (leading reader most ws) i (getD buffer i 0)
+listed-at {reader} {most} {ws} {buffer} l h i =
+    let vs = leading reader most ws in
+    let within : length vs ≤ length buffer = omega (arith, leading-length reader most ws) in
+    ap (λ b. getD b i 0) (l .after ∙ sets-eq vs buffer 0 (omega arith) ∙ ap (λ n. vs ++ drop n buffer) (zero-add (length vs))) ∙ front vs buffer i within

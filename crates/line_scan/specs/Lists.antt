@@ -11,10 +11,7 @@ use Rattle.line_number.specs.declared.Number.the-variants.{Value, Bad}
 use Rattle.line_scan.specs.declared.many.Many.{Many}
 use Rattle.line_scan.specs.declared.many.Many.the-variants.{Count, Refused}
 
--- the numbers of `open`, the parents of `book`, the votes of `poll`
-abbrev pub openMost : ℕ
-openMost = 4
-
+-- the parents of `book`, the votes of `poll`
 abbrev pub parentsMost : ℕ
 parentsMost = 16
 

@@ -79,7 +79,7 @@ hashRow = is 3715624240 ∷ is 880309797 ∷ is 92844348 ∷ is 2615243109 ∷ i
 
 abbrev crowd : CallsMade → List ℕ
 crowd c =
-    let opened = openCall (replicate size 0) (settingOf 1 1 1 2) .words in
+    let opened = openCall (replicate size 0) (settingOf 1 1 1 2 0) .words in
     let second = c .book opened 1391 7 (0 ∷ []) .words in
     let third = c .book second 552 8 (0 ∷ []) .words in
     c .book third 72623859790383894 9 (0 ∷ []) .words
@@ -136,27 +136,24 @@ foreignRows = ((10, pos 0) ∷ is 1 ∷ is 0 ∷ (10, pos 0) ∷ []) ∷ leaving
 
 unfoldable pub full : CallsMade → List (List Got)
 full c =
-    let w = openCall (replicate size 0) (settingOf 1 1 1 2) .words in
+    let w = openCall (replicate size 0) (settingOf 1 1 1 2 0) .words in
     let none : List ℕ = replicate 1024 65534 in
-    let last = set none 356 0 in
-    let two = set (set none 355 65535) 356 65535 in
+    let last : List ℕ = set none 356 0 in
     -- every cell is tried, the one before the genesis' home last, and numbers of records that are all zero are passed over too
     (got (c .find w none 0) ∷ got (c .find w (set (set last 357 1) 358 511) 0) ∷ [])
-    -- of two empty cells, met after a thousand others, the first is taken
-    ∷ handed (c .enter w two) w (set two 355 0)
     -- nothing can be entered, not even over the number itself; what is built is not full
     ∷ handed (c .enter w last) w last
     ∷ handed (c .build w last) w (holding ((357, 0) ∷ []))
     ∷ []
 
 unfoldable pub fullRows : List (List Got)
-fullRows = ((10, pos 0) ∷ is 0 ∷ []) ∷ leaving (is 0) ∷ leaving (27, pos 0) ∷ leaving (is 0) ∷ []
+fullRows = ((10, pos 0) ∷ is 0 ∷ []) ∷ leaving (27, pos 0) ∷ leaving (is 0) ∷ []
 
 -- ---- the order of refusals, on a ledger with one booking that waits: no confidence and no counter may be above 0, and p may be 0 or 1
 
 unfoldable pub refused : CallsMade → List (List Got)
 refused c =
-    let sound = c .book (openCall (replicate size 0) (settingOf 1 1 1 2) .words) 1 7 (0 ∷ []) .words in
+    let sound = c .book (openCall (replicate size 0) (settingOf 1 1 1 2 0) .words) 1 7 (0 ∷ []) .words in
     let counter = withEntry sound 7 counterField 1 in
     let confidence = withField counter 1 confidenceField 1 in
     let header = withHeader confidence pollsField 2 in

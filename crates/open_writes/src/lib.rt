@@ -9,6 +9,9 @@ ghost use Rattle.rules.specs.Open.{opened};
 // The header and the genesis.
 const FIRST_WORDS: usize = layout::HEADER_WORDS + layout::RECORD_WORDS;
 
+// The last word of the header.
+const SPARE: u16 = 0;
+
 // How many bookings slot 0 holds.
 const FIRST_HELD: usize = layout::SLOTS_START + layout::HELD;
 
@@ -20,7 +23,7 @@ pub fn write_open(w: &mut [u16], s: Setting)
     requires { ⌜ length (now w) ≡ size ⌝ }
     ensures { λ _. ⌜ now (w .exit) ≡ opened s ⌝ }
 {
-    // n = 1, the setting, p = 0; then name 0, slot 0, no parents, polled without a chit, marked
+    // n = 1, k to beta2, p = 0, the edition; then name 0, slot 0, no parents, polled without a chit, marked
     let first: [u16; FIRST_WORDS] = [
         1,
         s.k,
@@ -28,8 +31,8 @@ pub fn write_open(w: &mut [u16], s: Setting)
         s.beta1,
         s.beta2,
         0,
-        0,
-        0,
+        s.edition,
+        SPARE,
         0,
         0,
         0,

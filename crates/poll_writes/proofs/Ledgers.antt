@@ -1,4 +1,4 @@
--- A ledger has what raising and settling lean on, and noting and raising leave it so.
+-- A ledger has what raising, settling and clearing lean on, and noting and raising leave it so.
 use mathlib.Core.Path.{_≡_, _∙_}
 use mathlib.Core.List.{List}
 use Prim.Native.Nat.{ℕ, _<_}
@@ -12,6 +12,7 @@ use Rattle.rule_laws.proofs.Noted.{length-noted, field-noted-beside, confidence
 use Rattle.rule_laws.proofs.Raised.{length-raised, field-raised-beside, entry-raised-kept}
 use Rattle.poll_writes.specs.Raising.{Raising}
 use Rattle.poll_writes.specs.Settling.{Settling}
+use Rattle.poll_writes.specs.Clearing.{Clearing}
 
 -- ---- a ledger
 
@@ -32,6 +33,9 @@ module _ {w : List ℕ} (g : Ledger w) where
     counterFits = λ i l. omega (arith, counter-le w (g .sound) (slotOf w i) (slotOf-lt w (g .sound) i l));
   }
 
+  pub Ledger→Clearing : Clearing w (bookings w)
+  Ledger→Clearing = record { whole = g .whole; few = g .sound .bookingsMost; slotFits = slotOf-lt w (g .sound) }
+
 -- ---- the poll noted, and the members raised
 
 module _ (w : List ℕ) (i state : ℕ) where
@@ -40,6 +44,13 @@ module _ (w : List ℕ) (i state : ℕ) where
     whole = length-noted w i state ∙ h .whole;
     few = h .few;
     confidenceFits = λ j l. rw (confidence-noted w i state j) (h .confidenceFits j l);
+  }
+
+  pub noted-clearing : (n : ℕ) → Clearing w n → Clearing (noted w i state) n
+  noted-clearing n h = record {
+    whole = length-noted w i state ∙ h .whole;
+    few = h .few;
+    slotFits = λ j l. rw (field-noted-beside w i state j slotField (omega arith) (omega arith) (omega arith)) (h .slotFits j l);
   }
 
   pub raised-noted-settling : (m : List ℕ) (n : ℕ) → i < mostBookings → Settling w n → Settling (raised m n (noted w i state)) n

@@ -1,3 +1,4 @@
--- What raising and settling lean on.
+-- What raising, settling and clearing lean on.
 pub mod Raising
 pub mod Settling
+pub mod Clearing

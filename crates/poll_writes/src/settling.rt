@@ -1,5 +1,6 @@
 // Each member is settled in its slot: first the preference, then the last booking and the counter.
 use rules::layout;
+use terms::edition;
 ghost use mathlib.Core.Path.{_≡_};
 ghost use mathlib.Core.List.{List};
 ghost use Prim.Native.Nat.{ℕ, _<_};
@@ -22,7 +23,7 @@ fn prefer_one(w: &mut [u16], s: usize, j: usize)
     }
 }
 
-// The slot's last booking counts one more; another becomes last and counts from 0.
+// The slot's last booking counts one more; another becomes last, and the edition says where it counts from.
 fn follow_one(w: &mut [u16], s: usize, j: usize)
     requires { ⌜ Settleable (now w) s × (j < mostBookings) ⌝ }
     ensures { λ _. ⌜ now (w .exit) ≡ follow s j (now (w .entry)) ⌝ }
@@ -32,8 +33,9 @@ fn follow_one(w: &mut [u16], s: usize, j: usize)
         let counter = words::entry(w, s, layout::COUNTER);
         words::set_entry(w, s, layout::COUNTER, counter + 1);
     } else {
+        let start = edition::restart(words::header(w, layout::EDITION));
         words::set_entry(w, s, layout::LAST, j as u16);
-        words::set_entry(w, s, layout::COUNTER, 0);
+        words::set_entry(w, s, layout::COUNTER, start);
     }
 }
 

@@ -51,7 +51,6 @@ module _ (w : List ℕ) (name slot : ℕ) (parents : List ℕ) (ledger : Ledger 
         setting = rw (settingIn-booked w name slot parents) (sound .setting);
         pollsMost = omega (arith, sound .pollsMost);
         spareZero = header-booked-kept w name slot parents spareField (omega arith) (omega arith) ∙ sound .spareZero;
-        spareZeroToo = header-booked-kept w name slot parents (spareField + 1) (omega arith) (omega arith) ∙ sound .spareZeroToo;
         genesisName = nameOf-booked-old w name slot parents ledger bookable 0 (sound .bookingsLeast) ∙ sound .genesisName;
         genesisSlot = genesis-field slotField (omega arith) ∙ sound .genesisSlot;
         genesisParents = λ a h. genesis-field (parentsField + a) (omega arith) ∙ sound .genesisParents a h;

@@ -103,7 +103,7 @@ module _ (w : List ℕ) (name slot : ℕ) (parents : List ℕ) where
   polls-booked = header-booked-kept pollsField (omega arith) (omega arith)
 
   pub settingIn-booked : settingIn (booked w name slot parents) ≡ settingIn w
-  settingIn-booked = settingIn-kept w (booked w name slot parents) (λ g l h. header-booked-kept g l (omega arith))
+  settingIn-booked = settingIn-kept w (booked w name slot parents) (λ g l h d. header-booked-kept g l (omega arith))
 
   -- ---- another record
 

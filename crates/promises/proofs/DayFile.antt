@@ -29,6 +29,7 @@ use Rattle.day_file.specs.Day.{bookingAt, holder, pollOf, dayOf}
 use Rattle.day_file.specs.Bytes.{encode, dayFile}
 use Rattle.day_file.specs.Calls.{laid, writeFirstAnswer, writeFirstCall}
 use Rattle.day_file.proofs.Laid.{length-laid, laid-front, laid-past}
+use Rattle.day_file.specs.InTurn.{editionLength}
 use Rattle.day_file.proofs.Lengths.{length-dayFile, dayFile-least, dayFile-most}
 use Rattle.day_file.proofs.Codec.{encode-same}
 use Rattle.day_file.proofs.Fits.{dayOf-fits}
@@ -76,11 +77,11 @@ file-taken w buffer ledger room =
 -- ---- the file
 
 pub file-counted : FileCounted
-unfolding FileCounted
+unfolding FileCounted editionLength
 file-counted = length-dayFile
 
 pub file-length : FileLength
-unfolding FileLength
+unfolding FileLength editionLength
 file-length w ledger = (dayFile-least w ledger, dayFile-most w ledger)
 
 pub words-named : WordsNamed

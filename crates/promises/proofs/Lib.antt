@@ -19,6 +19,7 @@ pub mod Run
 pub mod Good
 pub mod Kept
 pub mod Marks
+pub mod Editions
 pub mod Told
 pub mod DayFile
 pub mod DayGrown

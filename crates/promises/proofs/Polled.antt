@@ -86,7 +86,7 @@ module _ (w : List ℕ) (i : ℕ) (success : Bool) (ledger : Ledger w) (pollable
 -- ---- by the votes
 
 module _ (w : List ℕ) (i : ℕ) (votes : List ℕ) (ledger : Ledger w) (pollable : Pollable w i) where
-  polled-Noted : Noted w (polled w i votes) i (cond (isSuccess w votes) 2 1)
+  pub polled-Noted : Noted w (polled w i votes) i (cond (isSuccess w votes) 2 1)
   unfolding polled
   polled-Noted = polledBy-Noted w i (isSuccess w votes) ledger pollable
 
@@ -113,6 +113,6 @@ module _ (w : List ℕ) (i : ℕ) (votes : List ℕ) (ledger : Ledger w) (pollab
   unfolding polled
   confidence-success e j l = rw e (confidence-marked (succeeded w i) j ∙ confidence-succeeded w i j ledger l (pollable .below))
 
-  pub confidence-failure : isSuccess w votes ≡ false → (j : ℕ) → confidenceOf (polled w i votes) j ≡ confidenceOf w j
+  pub confidence-failure : isSuccess w votes ≡ false → (j : ℕ) → j < bookings w → confidenceOf (polled w i votes) j ≡ confidenceOf w j
   unfolding polled
-  confidence-failure e j = rw e (confidence-marked (failed w i) j ∙ confidence-failed w i j)
+  confidence-failure e j l = rw e (confidence-marked (failed w i) j ∙ confidence-failed w i j (booking-lt w (ledger .sound) j l))

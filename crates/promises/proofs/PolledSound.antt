@@ -35,7 +35,7 @@ pub record Gained (w v : List ℕ) (gain : ℕ) : Type 0 where
   pub preferred : (s : ℕ) → BookingOf w s (preferredIn w s) → BookingOf w s (preferredIn v s)
   pub last : (s : ℕ) → BookingOf w s (lastIn w s) → BookingOf w s (lastIn v s)
   pub mark : (j : ℕ) → j < mostBookings → markOf v j ≡ markOf w j
-  pub counter : (s : ℕ) → counterIn v s ≤ counterIn w s + gain
+  pub counter : (s : ℕ) → s < slots → counterIn v s ≤ counterIn w s + gain
 
 module _ (w v : List ℕ) (i state : ℕ) (sound : Sound w) (pollable : Pollable w i) (n : Noted w v i state) where
   few : (j : ℕ) → j < bookings v → j < mostBookings
@@ -118,10 +118,9 @@ module _ (w v : List ℕ) (i state : ℕ) (sound : Sound w) (pollable : Pollable
       record {
         bookingsLeast = omega (arith, Noted-bookings n);
         bookingsMost = omega (arith, Noted-bookings n, sound .bookingsMost);
-        setting = rw (settingIn-kept w v (λ g l u. n .head g (omega arith) (omega arith))) (sound .setting);
+        setting = rw (settingIn-kept w v (λ g l u d. n .head g (omega arith) d)) (sound .setting);
         pollsMost = omega (arith, Noted-bookings n, n .more, polls-room w i sound pollable);
         spareZero = n .head spareField (omega arith) (omega arith) ∙ sound .spareZero;
-        spareZeroToo = n .head (spareField + 1) (omega arith) (omega arith) ∙ sound .spareZeroToo;
         genesisName = grown .name 0 first ∙ sound .genesisName;
         genesisSlot = grown .slot 0 first ∙ sound .genesisSlot;
         genesisParents = λ a l. grown .parent 0 a first l ∙ sound .genesisParents a l;
@@ -141,5 +140,5 @@ module _ (w v : List ℕ) (i state : ℕ) (sound : Sound w) (pollable : Pollable
         emptyEntry = emptyEntry-noted (bit (eqb state 2)) gained;
         heldEntry = heldEntry-noted (bit (eqb state 2)) gained;
         confidenceMost = λ j u. omega (arith, chits-noted, gained .confidence j (old j u), sound .confidenceMost j (old j u));
-        counterMost = λ s u. omega (arith, chits-noted, gained .counter s, sound .counterMost s u);
+        counterMost = λ s u. omega (arith, chits-noted, gained .counter s u, sound .counterMost s u);
       }

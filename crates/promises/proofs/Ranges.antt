@@ -12,7 +12,7 @@ use Rattle.loops.specs.Total.{bit}
 use Rattle.terms.specs.declared.answer.Answer.{Answer}
 use Rattle.terms.specs.declared.answer.Answer.the-variants.{Taken, Refused}
 use Rattle.terms.specs.Answers.{number, value}
-use Rattle.rules.specs.Layout.{bookings, confidenceOf}
+use Rattle.rules.specs.Layout.{bookings, settingIn, confidenceOf}
 use Rattle.rules.specs.Readings.{queryOf, acceptedOf, leadOf, sizeOf}
 use Rattle.rules.specs.Book.{lookUp, numberOf}
 use Rattle.rules.specs.Calls.{readingCall}
@@ -21,7 +21,7 @@ use Rattle.rule_laws.proofs.Calls.{refusalNumber-within, number-refused, value-
 use Rattle.rule_laws.proofs.Lookup.{found-below}
 use Rattle.rule_laws.proofs.Readings.{query-le, accepted-le, confidence-le, lead-le, size-least, size-most}
 use Rattle.day_file.specs.Bytes.{dayFile}
-use Rattle.day_file.proofs.Lengths.{dayFile-least, dayFile-most}
+use Rattle.day_file.proofs.Lengths.{editionLength-most, dayFile-least, dayFile-most}
 use Rattle.name_index.proofs.Probing.{found-of}
 use Rattle.promises.specs.Run.{outcomeOf}
 use Rattle.promises.specs.Damage.{NamesDamage}
@@ -90,7 +90,7 @@ ranges = record {
       taken;
   writing = λ w buffer taken.
       let file = write-taken w buffer taken in
-      rw (file .1) (between _ _ (length (dayFile w)) (omega (arith, dayFile-least w (file .0))) (omega (arith, dayFile-most w (file .0))));
+      rw (file .1) (between _ _ (length (dayFile w)) (omega (arith, dayFile-least w (file .0))) (omega (arith, dayFile-most w (file .0), editionLength-most (settingIn w .edition))));
   readingFile = read-value;
   building = λ w index taken. ap (λ o. value (o .answer)) (build-taken w index taken .2);
   entering = λ w index taken. ap (λ o. value (o .answer)) (enter-taken w index taken .3);

@@ -138,7 +138,7 @@ module _ (q : DayPoll) (w : List ℕ) (ledger : Ledger w) (able : Pollable w (q 
   after-day : dayOf after ≡ withDayPoll (dayOf w) q
   unfolding dayOf
   after-day =
-      let setting : settingIn after ≡ settingIn w = settingIn-kept w after (λ g l h. after-noted .head g (omega arith) (omega arith)) in
+      let setting : settingIn after ≡ settingIn w = settingIn-kept w after (λ g l h d. after-noted .head g (omega arith) d) in
       λ k. record { setting = setting k; bookings = bookings-listed k; polls = polls-listed k }
 
 -- ---- together

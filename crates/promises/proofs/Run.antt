@@ -177,7 +177,7 @@ module _ (w : List ℕ) (h : History) (right : Right w h) (i : ℕ) (votes : Lis
       rw (confidence-success w i votes (right .ledger) able e j m) (counted-one (isMember (ancestry w i) j) j refl m)
   polled-counted false e j l =
       let m : j < bookings w = omega (arith, bookings-polled w i votes (right .ledger) able) in
-      rw (confidence-failure w i votes (right .ledger) able e j) (earlier j m)
+      rw (confidence-failure w i votes (right .ledger) able e j m) (earlier j m)
 
   polled-summed : (b : Bool) → isSuccess w votes ≡ b → total (confidenceOf v) (bookings v) ≡ sizes v (withPoll b i h .successes)
   unfolding sizes sizeOf
@@ -189,7 +189,7 @@ module _ (w : List ℕ) (h : History) (right : Right w h) (i : ℕ) (votes : Lis
       ∙ ap₂ _+_ (sym (size-grown w v (right .ledger) same i (able .below))) (right .summed ∙ sym (sizes-grown w v (right .ledger) same (right .below)))
   polled-summed false e =
       ap (total (confidenceOf v)) (bookings-polled w i votes (right .ledger) able)
-      ∙ total-same (confidenceOf v) (confidenceOf w) (bookings w) (λ j l. confidence-failure w i votes (right .ledger) able e j)
+      ∙ total-same (confidenceOf v) (confidenceOf w) (bookings w) (λ j l. confidence-failure w i votes (right .ledger) able e j l)
       ∙ right .summed ∙ sym (sizes-grown w v (right .ledger) same (right .below))
 
   polled-below : (b : Bool) → Within (bookings v) (withPoll b i h .successes)

@@ -94,10 +94,11 @@ opened-day s =
     let a = header-opened s 2 (omega arith) in
     let beta1 = header-opened s 3 (omega arith) in
     let beta2 = header-opened s 4 (omega arith) in
+    let edition = header-opened s 6 (omega arith) in
     let none : from (bookingAt (opened s)) 1 (bookings (opened s) - 1) ≡ [] = ap (λ n. from (bookingAt (opened s)) 1 (n - 1)) (bookings-opened s) in
     let unpolled : from (λ o. pollOf (opened s) (holder (opened s) o)) 1 (polls (opened s)) ≡ []
     = ap (from (λ o. pollOf (opened s) (holder (opened s) o)) 1) (header-opened s pollsField (omega arith)) in
-    λ i. record { setting = settingOf (k i) (a i) (beta1 i) (beta2 i); bookings = none i; polls = unpolled i }
+    λ i. record { setting = settingOf (k i) (a i) (beta1 i) (beta2 i) (edition i); bookings = none i; polls = unpolled i }
 
 -- ---- one stage and the next
 

@@ -2,11 +2,13 @@
 use mathlib.Core.Path.{_≡_, sym, ap, _∙_}
 use mathlib.Core.Bool.{false}
 use mathlib.Core.List.{List}
+use mathlib.Core.Logic.{_≢_}
 use Prim.Native.Nat.{ℕ, _+_, _<_, _≤_}
 use native.Mathlib.Omega.{arith}
 use Rattle.loops.specs.Total.{bit}
 use Rattle.loops.proofs.Total.{bit-le}
-use Rattle.rules.specs.Layout.{entry, bookings, slotField, confidenceField, preferredField, lastField, counterField, heldField, slotOf, confidenceOf, preferredIn, lastIn, markField}
+use Rattle.terms.specs.Editions.{restart}
+use Rattle.rules.specs.Layout.{entry, bookings, editionField, settingIn, slotField, confidenceField, preferredField, lastField, counterField, heldField, slotOf, confidenceOf, preferredIn, lastIn, counterIn, markField}
 use Rattle.rules.specs.Ancestry.{ancestry, isMember}
 use Rattle.rules.specs.Sound.{Ledger, BookingOf}
 use Rattle.rules.specs.Poll.{noted, raised, succeeded}
@@ -30,6 +32,7 @@ use Rattle.rule_laws.proofs.SettledSlots.{
   preferred-settled-among,
   last-settled-among,
   counter-settled-le,
+  last-settled-changed,
   led-settled,
 }
 use Rattle.promises.proofs.PolledSound.{Gained}
@@ -110,8 +113,14 @@ module _ (w : List ℕ) (i : ℕ) (ledger : Ledger w) (below : i < bookings w) w
         field-settled-kept (ancestry w i) (bookings w) (raisedWords w i) j markField u (omega arith)
         ∙ field-raised-beside (ancestry w i) (bookings w) (noted w i 2) j markField (omega arith) (omega arith)
         ∙ field-noted-beside w i 2 j markField (omega arith) (omega arith) (omega arith);
-    counter = λ s. omega (arith, counter-settled-le (ancestry w i) (raisedWords w i) (bookings w) raised-SlotsFit s, raised-entry s counterField);
+    counter = λ s u. omega (arith, counter-settled-le (ancestry w i) (raisedWords w i) (bookings w) raised-SlotsFit s, raised-entry s counterField);
   }
+
+  -- where the last changes the counter restarts
+  pub succeeded-changed : (s : ℕ) → lastIn (succeeded w i) s ≢ lastIn w s → counterIn (succeeded w i) s ≡ restart (settingIn w .edition)
+  succeeded-changed s changed =
+      last-settled-changed (ancestry w i) (raisedWords w i) (bookings w) raised-SlotsFit s (λ e. changed (e ∙ raised-entry s lastField))
+      ∙ ap restart (raised-Noted .head editionField (omega arith) (omega arith))
 
   -- ---- the preferred one still leads
 

@@ -1,9 +1,11 @@
--- CR 2: what the call that writes the day file leaves, how long a file is, and what it carries. Which bytes it has stands in day_file/specs/Bytes.antt.
+-- CR 2 and CR 7: what the call that writes the day file leaves, how long a file is, and what it carries. Which bytes it has stands in day_file/specs/Bytes.antt.
 use mathlib.Core.Path.{_≡_}
+use mathlib.Core.Bool.{cond}
 use mathlib.Core.List.{List}
 use Prim.Native.Nat.{ℕ, _+_, _*_, _-_, _^_, _<_, _≤_}
 use lib.IntN.{ℤ, pos}
 use lib.ListN.{length, getD}
+use lib.Dec.{eqb}
 use Rattle.loops.specs.Total.{total}
 use Rattle.terms.specs.Answers.{number, value}
 use Rattle.rules.specs.Layout.{mostParents, bookings, settingIn, polls, nameOf, slotOf, parentOf, stateOf, ordinalOf}
@@ -28,20 +30,24 @@ FileWritten =
     (w buffer : List ℕ) → let o = writeFirstCall w buffer in number (o .answer) ≡ 0
     → Written (dayFile w) buffer (value (o .answer)) (o .lent) × (o .words ≡ w)
 
--- every ledger is written where the buffer has room for its file; one of 12,266 bytes always has (FileLength)
+-- every ledger is written where the buffer has room for its file; one of 12,268 bytes always has (FileLength)
 unfoldable pub FileTaken : Type 0
 FileTaken = (w buffer : List ℕ) → Ledger w → length (dayFile w) ≤ length buffer → number (writeFirstCall w buffer .answer) ≡ 0
 
 -- ---- the file of a ledger
 
+-- two bytes for the edition where it isn't 0
+abbrev pub editionBytes : List ℕ → ℕ
+editionBytes w = cond (eqb (settingIn w .edition) 0) 0 2
+
 -- how long it is: three counts and the setting, 12 bytes and two for each parent of each booking from number 1, and four for each poll
 unfoldable pub FileCounted : Type 0
-FileCounted = (w : List ℕ) → length (dayFile w) ≡ 14 + total (λ j. 12 + 2 * parentCount w (j + 1)) (bookings w - 1) + 4 * polls w
+FileCounted = (w : List ℕ) → length (dayFile w) ≡ 14 + editionBytes w + total (λ j. 12 + 2 * parentCount w (j + 1)) (bookings w - 1) + 4 * polls w
 
 -- 14 bytes where the genesis stands alone. No more than 12,266: with 512 bookings and 511 polls, where bookings 1, 2 and 3 have as many parents as there
--- are lower numbers and every later one has four
+-- are lower numbers and every later one has four. By edition 1 two more, 16 and 12,268
 unfoldable pub FileLength : Type 0
-FileLength = (w : List ℕ) → Ledger w → (14 ≤ length (dayFile w)) × (length (dayFile w) ≤ 12266)
+FileLength = (w : List ℕ) → Ledger w → (14 + editionBytes w ≤ length (dayFile w)) × (length (dayFile w) ≤ 12266 + editionBytes w)
 
 -- a name has 64 bits. Soundness bounds what else a file carries, but not the four words of a name
 abbrev pub Names64 : List ℕ → Type 0

@@ -2,6 +2,7 @@
 pub mod Run
 pub mod Soundness
 pub mod Acceptance
+pub mod Editions
 pub mod Damage
 pub mod Confidence
 pub mod Lasting

@@ -27,7 +27,7 @@ pub record Ranges : Type 0 where
   pub lead : (w : List ℕ) (name : ℕ) → number (leadCall w name) ≡ 0 → natAbs (value (leadCall w name)) ≤ 511
   pub confidence : (w : List ℕ) (name : ℕ) → number (confidenceCall w name) ≡ 0 → Between 0 511 (value (confidenceCall w name))
   pub size : (w : List ℕ) (name : ℕ) → number (sizeCall w name) ≡ 0 → Between 1 512 (value (sizeCall w name))
-  pub writing : (w buffer : List ℕ) → number (writeFirstCall w buffer .answer) ≡ 0 → Between 14 12266 (value (writeFirstCall w buffer .answer))
+  pub writing : (w buffer : List ℕ) → number (writeFirstCall w buffer .answer) ≡ 0 → Between 14 12268 (value (writeFirstCall w buffer .answer))
   pub readingFile : (w file : List ℕ) → number (readFirstCall w file .answer) ≡ 0 → value (readFirstCall w file .answer) ≡ pos 0
   pub building : (w index : List ℕ) → number (indexBuildCall w index .answer) ≡ 0 → value (indexBuildCall w index .answer) ≡ pos 0
   pub entering : (w index : List ℕ) → number (indexEnterCall w index .answer) ≡ 0 → value (indexEnterCall w index .answer) ≡ pos 0

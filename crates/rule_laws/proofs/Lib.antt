@@ -15,6 +15,7 @@ pub mod MarkedSound
 pub mod MarkedEarned
 pub mod Readings
 pub mod Noted
+pub mod Cleared
 pub mod Raised
 pub mod Settled
 pub mod SettledTurns

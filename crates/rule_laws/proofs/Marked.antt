@@ -10,15 +10,16 @@ use native.Mathlib.Omega.{arith}
 use lib.ListN.{length, getD, length-set}
 use lib.Seq.{getD-set-same, getD-set-other}
 use lib.Dec.{eqb}
-use borrow.Author.Tests.{eqb-true, eqb-false, eq-eqb, ne-eqb, ltb-true, lt-ltb, not-true}
+use borrow.Author.Tests.{eqb-true, eqb-false, eq-eqb, ne-eqb, not-true}
 use Rattle.loops.proofs.Turns.{upTo-kept, upTo-since}
 use Rattle.loops.proofs.Search.{all→, →all, none→, →none}
 use Rattle.loops.proofs.Bools.{and-left, and-right, and-both, refuted, or-right, or-else, or-either}
-use Rattle.rules.specs.Layout.{mostBookings, mostParents, headerWords, recordWords, none, recordAt, slotAt, header, field, entry, bookings, markField, slotOf, parentOf, markOf, isMarked, withField}
+use Rattle.terms.proofs.Editions.{enough-is}
+use Rattle.rules.specs.Layout.{mostBookings, mostParents, headerWords, recordWords, none, recordAt, slotAt, header, field, entry, bookings, settingIn, markField, slotOf, parentOf, markOf, isMarked, counterIn, withField}
 use Rattle.rules.specs.Ancestry.{Parent}
 use Rattle.rules.specs.Readings.{isRival}
-use Rattle.rules.specs.Marks.{parentMarked, parentsMarked, firstArm, secondArm, meetsRule, anotherMarked, markOne, markedBelow}
-use Rattle.rules.specs.AsRead.{FirstArm, SecondArm, Meets, Rival}
+use Rattle.rules.specs.Marks.{counterEnough, parentMarked, parentsMarked, firstArm, secondArm, meetsRule, anotherMarked, markOne, markedBelow}
+use Rattle.rules.specs.AsRead.{Enough, FirstArm, SecondArm, Meets, Rival}
 
 -- ---- the rule as people read it
 
@@ -38,6 +39,11 @@ module _ (w : List ℕ) (i : ℕ) where
           (λ b l.
           or-else _ _ (λ t. eq-eqb _ 1 (h (parentOf w i b) (record { place = b; within = l; stands = refl; used = eqb-false _ _ t }))))
 
+  enough-are : (beta : ℕ) → (counterEnough w i beta ≡ true) ↔ Enough w i beta
+  enough-are beta =
+      let told = enough-is (settingIn w .edition) beta (counterIn w (slotOf w i)) in
+      (λ e. record { above = told .0 e .0; atLeast = told .0 e .1 }, λ f. told .1 (f .above, f .atLeast))
+
   first-are : (firstArm w i ≡ true) ↔ FirstArm w i
   first-are = (to, from)
     where
@@ -45,10 +51,10 @@ module _ (w : List ℕ) (i : ℕ) where
       to e =
           let u = and-eq-true-iff _ _ .0 e in
           let v = and-eq-true-iff _ _ .0 (u .0) in
-          record { parents = parents-are .0 (v .0); alone = eqb-true _ _ (v .1); counter = ltb-true _ _ (u .1) }
+          record { parents = parents-are .0 (v .0); alone = eqb-true _ _ (v .1); counter = enough-are _ .0 (u .1) }
 
       from : FirstArm w i → firstArm w i ≡ true
-      from f = and-both _ _ (and-both _ _ (parents-are .1 (f .parents)) (eq-eqb _ _ (f .alone))) (lt-ltb _ _ (f .counter))
+      from f = and-both _ _ (and-both _ _ (parents-are .1 (f .parents)) (eq-eqb _ _ (f .alone))) (enough-are _ .1 (f .counter))
 
   second-are : (secondArm w i ≡ true) ↔ SecondArm w i
   second-are = (to, from)
@@ -57,10 +63,10 @@ module _ (w : List ℕ) (i : ℕ) where
       to e =
           let u = and-eq-true-iff _ _ .0 e in
           let v = and-eq-true-iff _ _ .0 (u .0) in
-          record { preferred = eqb-true _ _ (v .0); last = eqb-true _ _ (v .1); counter = ltb-true _ _ (u .1) }
+          record { preferred = eqb-true _ _ (v .0); last = eqb-true _ _ (v .1); counter = enough-are _ .0 (u .1) }
 
       from : SecondArm w i → secondArm w i ≡ true
-      from f = and-both _ _ (and-both _ _ (eq-eqb _ _ (f .preferred)) (eq-eqb _ _ (f .last))) (lt-ltb _ _ (f .counter))
+      from f = and-both _ _ (and-both _ _ (eq-eqb _ _ (f .preferred)) (eq-eqb _ _ (f .last))) (enough-are _ .1 (f .counter))
 
   -- the test says what people read, on any words
   pub meets-is : (meetsRule w i ≡ true) ↔ Meets w i

@@ -8,10 +8,11 @@ use Prim.Native.Nat.{ℕ, _+_, _<_, _≤_}
 use native.Mathlib.Omega.{arith}
 use native.Mathlib.Decide.{decLt}
 use Rattle.loops.proofs.Bools.{and-left, and-both}
+use Rattle.terms.specs.declared.setting.Setting.{Setting}
 use Rattle.rules.specs.Layout.{mostBookings, mostParents, entry, bookings, settingIn, slotField, parentsField, preferredField, lastField, counterField, heldField, slotOf, parentOf, markOf}
 use Rattle.rules.specs.Ancestry.{Parent}
 use Rattle.rules.specs.Sound.{Ledger}
-use Rattle.rules.specs.AsRead.{Meets, Rival, Earned}
+use Rattle.rules.specs.AsRead.{Enough, Meets, Rival, Earned}
 use Rattle.rules.specs.Marks.{meetsRule, markedBelow, marked}
 use Rattle.rule_laws.proofs.Ancestry.{Parent-lt}
 use Rattle.rule_laws.proofs.Words.{settingIn-kept}
@@ -32,11 +33,19 @@ module _ (u v : List ℕ) (alike : Alike u v) (i : ℕ) where
   slot-entry : (g : ℕ) → entry v (slotOf v i) g ≡ entry u (slotOf u i) g
   slot-entry g = ap (λ s. entry v s g) (alike .slot i) ∙ alike .entries (slotOf u i) g
 
+  enough-kept : (beta : Setting → ℕ) → Enough u i (beta (settingIn u)) → Enough v i (beta (settingIn v))
+  enough-kept beta e =
+      let edition : settingIn v .edition ≡ settingIn u .edition = ap (λ s. s .edition) (alike .setting) in
+      let same : beta (settingIn v) ≡ beta (settingIn u) = ap beta (alike .setting) in
+      record {
+        above = λ d. omega (arith, same, slot-entry counterField, e .above (λ q. d (edition ∙ q)));
+        atLeast = λ q. omega (arith, same, slot-entry counterField, e .atLeast (sym edition ∙ q));
+      }
+
   -- the rule holds still where the parents' marks do
   Meets-kept : ((p : ℕ) → Parent u i p → markOf u p ≡ 1 → markOf v p ≡ 1) → Meets u i → Meets v i
   Meets-kept marks (inl z) = inl z
   Meets-kept marks (inr (inl f)) =
-      let setting : settingIn v .beta1 ≡ settingIn u .beta1 = ap (λ s. s .beta1) (alike .setting) in
       inr
       (inl
       (record {
@@ -45,16 +54,15 @@ module _ (u v : List ℕ) (alike : Alike u v) (i : ℕ) where
             = record { place = a .place; within = a .within; stands = sym (alike .parent i (a .place) (a .within)) ∙ a .stands; used = a .used } in
             marks p before (f .parents p before);
         alone = slot-entry heldField ∙ f .alone;
-        counter = omega (arith, setting, slot-entry counterField, f .counter);
+        counter = enough-kept (λ s. s .beta1) (f .counter);
       }))
   Meets-kept marks (inr (inr s)) =
-      let setting : settingIn v .beta2 ≡ settingIn u .beta2 = ap (λ s. s .beta2) (alike .setting) in
       inr
       (inr
       (record {
         preferred = slot-entry preferredField ∙ s .preferred;
         last = slot-entry lastField ∙ s .last;
-        counter = omega (arith, setting, slot-entry counterField, s .counter);
+        counter = enough-kept (λ s. s .beta2) (s .counter);
       }))
 
   Rival-kept : (j : ℕ) → Rival u i j → Rival v i j
@@ -85,7 +93,7 @@ module _ (w : List ℕ) (ledger : Ledger w) where
   alike-below n l =
       record {
         many = header-marked-kept n w 0 (omega arith);
-        setting = settingIn-kept w (markedBelow n w) (λ g a b. header-marked-kept n w g (omega arith));
+        setting = settingIn-kept w (markedBelow n w) (λ g a b d. header-marked-kept n w g (omega arith));
         slot = λ i. field-marked-beside n w i slotField (omega arith) (omega arith);
         parent = λ i a h. field-marked-beside n w i (parentsField + a) (omega arith) (omega arith);
         entries = λ s g. entry-marked-kept n w s g (omega (arith, few));

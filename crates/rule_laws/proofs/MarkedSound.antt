@@ -130,10 +130,9 @@ module _ (w : List ℕ) (ledger : Ledger w) (j : ℕ) (below : j < bookings w) (
       record {
         bookingsLeast = omega (arith, many, sound .bookingsLeast);
         bookingsMost = omega (arith, many, sound .bookingsMost);
-        setting = rw (settingIn-kept w v (λ g l u. head g (omega arith))) (sound .setting);
+        setting = rw (settingIn-kept w v (λ g l u d. head g (omega arith))) (sound .setting);
         pollsMost = omega (arith, many, head 5 (omega arith), sound .pollsMost);
         spareZero = head spareField (omega arith) ∙ sound .spareZero;
-        spareZeroToo = head (spareField + 1) (omega arith) ∙ sound .spareZeroToo;
         genesisName = name-same 0 ∙ sound .genesisName;
         genesisSlot = slot-same 0 ∙ sound .genesisSlot;
         genesisParents = λ a l. same 0 (parentsField + a) (omega arith) (omega arith) ∙ sound .genesisParents a l;

@@ -2,7 +2,7 @@
 use mathlib.Core.Path.{_≡_, sym, ap, _∙_}
 use mathlib.Core.List.{[], _∷_}
 use mathlib.Core.Logic.{_≢_}
-use Prim.Native.Nat.{ℕ, _+_, _-_, _/_, _%_, _<_}
+use Prim.Native.Nat.{ℕ, _-_, _/_, _%_, _<_}
 use native.Mathlib.Nat.{zero-add}
 use native.Mathlib.Omega.{arith}
 use native.Mathlib.Decide.{ℕ-discrete}
@@ -171,10 +171,9 @@ module _ (s : Setting) where
       record {
         bookingsLeast = omega arith;
         bookingsMost = omega arith;
-        setting = omega (arith, header-opened s 1 (omega arith), header-opened s 2 (omega arith), header-opened s 3 (omega arith), header-opened s 4 (omega arith));
+        setting = omega (arith, header-opened s 1 (omega arith), header-opened s 2 (omega arith), header-opened s 3 (omega arith), header-opened s 4 (omega arith), header-opened s 6 (omega arith));
         pollsMost = omega arith;
         spareZero = header-opened s spareField (omega arith);
-        spareZeroToo = header-opened s (spareField + 1) (omega arith);
         genesisName = genesis-name;
         genesisSlot = genesis-opened s slotField (omega arith);
         genesisParents = genesis-parents;

@@ -70,8 +70,7 @@ use Rattle.rule_laws.proofs.Entries.{slotGood→EmptyEntry, slotGood→
 
 abbrev headerTests : List ℕ → List Bool
 headerTests w =
-    leb 1 (bookings w) ∷ leb (bookings w) mostBookings ∷ isGood (settingIn w) ∷ ltb (polls w) (bookings w)
-    ∷ eqb (header w spareField) 0 ∷ eqb (header w (spareField + 1)) 0
+    leb 1 (bookings w) ∷ leb (bookings w) mostBookings ∷ isGood (settingIn w) ∷ ltb (polls w) (bookings w) ∷ eqb (header w spareField) 0
     ∷ []
 
 pub headerGood→Rules : (w : List ℕ) → headerGood w ≡ true → HeaderRules w
@@ -84,14 +83,13 @@ headerGood→Rules w e =
       setting = isGood→Good (settingIn w) (passes 2);
       pollsMost = ltb-true (polls w) (bookings w) (passes 3);
       spareZero = eqb-true (header w spareField) 0 (passes 4);
-      spareZeroToo = eqb-true (header w (spareField + 1)) 0 (passes 5);
     }
 
 pub Rules→headerGood : (w : List ℕ) → HeaderRules w → headerGood w ≡ true
 unfolding headerGood
 Rules→headerGood w rules =
     row-by (headerTests w) (le-leb _ _ (rules .bookingsLeast)) (le-leb _ _ (rules .bookingsMost)) (Good→isGood (settingIn w) (rules .setting))
-    (lt-ltb _ _ (rules .pollsMost)) (eq-eqb _ _ (rules .spareZero)) (eq-eqb _ _ (rules .spareZeroToo))
+    (lt-ltb _ _ (rules .pollsMost)) (eq-eqb _ _ (rules .spareZero))
 
 -- ---- the genesis
 

@@ -11,6 +11,7 @@ use lib.Seq.{getD-set-same, getD-set-other}
 use lib.Dec.{ltb, eqb}
 use borrow.Author.Tests.{eqb-true}
 use Rattle.loops.proofs.Turns.{upTo-kept}
+use Rattle.terms.specs.Editions.{restart}
 use Rattle.rules.specs.Layout.{
   mostBookings,
   headerWords,
@@ -29,6 +30,7 @@ use Rattle.rules.specs.Layout.{
   lastIn,
   counterIn,
   heldIn,
+  settingIn,
   withEntry,
 }
 use Rattle.rules.specs.Ancestry.{isMember}
@@ -64,8 +66,11 @@ module _ (s j : ℕ) (w : List ℕ) where
   abbrev again : List ℕ
   again = withEntry w s counterField (counterIn w s + 1)
 
+  abbrev started : ℕ
+  started = restart (settingIn w .edition)
+
   abbrev anew : List ℕ
-  anew = withEntry (withEntry w s lastField j) s counterField 0
+  anew = withEntry (withEntry w s lastField j) s counterField started
 
   pub length-follow : length (follow s j w) ≡ length w
   unfolding follow
@@ -78,7 +83,7 @@ module _ (s j : ℕ) (w : List ℕ) where
   word-follow-other k d e =
       elim (eqb (lastIn w s) j) as (λ b. getD (cond b again anew) k 0 ≡ getD w k 0) [
         | true ↦ getD-set-other w (slotAt s counterField) k (counterIn w s + 1) 0 e
-        | false ↦ getD-set-other (withEntry w s lastField j) (slotAt s counterField) k 0 0 e ∙ getD-set-other w (slotAt s lastField) k j 0 d
+        | false ↦ getD-set-other (withEntry w s lastField j) (slotAt s counterField) k started 0 e ∙ getD-set-other w (slotAt s lastField) k j 0 d
       ]
 
   module _ (fits : slotAt s counterField < length w) where
@@ -89,15 +94,15 @@ module _ (s j : ℕ) (w : List ℕ) where
         go : (b : Bool) → eqb (lastIn w s) j ≡ b → lastIn (cond b again anew) s ≡ j
         go true e = getD-set-other w (slotAt s counterField) (slotAt s lastField) (counterIn w s + 1) 0 (λ q. omega arith) ∙ eqb-true (lastIn w s) j e
         go false e =
-            getD-set-other (withEntry w s lastField j) (slotAt s counterField) (slotAt s lastField) 0 0 (λ q. omega arith)
+            getD-set-other (withEntry w s lastField j) (slotAt s counterField) (slotAt s lastField) started 0 (λ q. omega arith)
             ∙ getD-set-same w (slotAt s lastField) j 0 (omega arith)
 
-    pub counter-follow-same : counterIn (follow s j w) s ≡ cond (eqb (lastIn w s) j) (counterIn w s + 1) 0
+    pub counter-follow-same : counterIn (follow s j w) s ≡ cond (eqb (lastIn w s) j) (counterIn w s + 1) started
     unfolding follow
     counter-follow-same =
-        elim (eqb (lastIn w s) j) as (λ b. counterIn (cond b again anew) s ≡ cond b (counterIn w s + 1) 0) [
+        elim (eqb (lastIn w s) j) as (λ b. counterIn (cond b again anew) s ≡ cond b (counterIn w s + 1) started) [
           | true ↦ getD-set-same w (slotAt s counterField) (counterIn w s + 1) 0 fits
-          | false ↦ getD-set-same (withEntry w s lastField j) (slotAt s counterField) 0 0 (omega (arith, length-set w (slotAt s lastField) j))
+          | false ↦ getD-set-same (withEntry w s lastField j) (slotAt s counterField) started 0 (omega (arith, length-set w (slotAt s lastField) j))
         ]
 
 -- ---- one turn

@@ -8,6 +8,8 @@ use Prim.Native.Nat.{ℕ, suc, _+_, _<_, _≤_}
 use native.Mathlib.Nat.{eq-or-lt-of-le, le-of-suc-le-suc}
 use native.Mathlib.Decide.{ℕ-discrete}
 use native.Mathlib.Omega.{arith}
+use Rattle.terms.specs.Editions.{restart}
+use Rattle.terms.proofs.Editions.{restart-most}
 use Rattle.rules.specs.Layout.{
   recordWords,
   slotWords,
@@ -23,6 +25,7 @@ use Rattle.rules.specs.Layout.{
   preferredIn,
   lastIn,
   counterIn,
+  settingIn,
 }
 use Rattle.rules.specs.Ancestry.{isMember}
 use Rattle.rules.specs.Poll.{settled}
@@ -78,10 +81,10 @@ module _ (m u : List ℕ) (n : ℕ) (able : SlotsFit u n) where
     risen-turn : (j : ℕ) (v v′ : List ℕ) → Settles u v v′ j → Risen j v → Risen (suc j) v′
     risen-turn j v v′ turn c = go (ℕ-discrete s (slotOf u j)) c
       where
-        here : lastIn v′ s ≡ j → ((lastIn v s ≡ j) × (counterIn v′ s ≡ counterIn v s + 1)) ⊎ (counterIn v′ s ≡ 0) → Risen j v → Risen (suc j) v′
+        here : lastIn v′ s ≡ j → ((lastIn v s ≡ j) × (counterIn v′ s ≡ counterIn v s + 1)) ⊎ ((lastIn v s ≢ j) × (counterIn v′ s ≡ restart (settingIn u .edition))) → Risen j v → Risen (suc j) v′
         here last (inl up) (inl e) = inr (omega arith)
         here last (inl up) (inr e) = absurd (omega arith)
-        here last (inr zeroed) e = inr (omega arith)
+        here last (inr started) e = inr (omega (arith, started .1, restart-most (settingIn u .edition)))
 
         go : Dec (s ≡ slotOf u j) → Risen j v → Risen (suc j) v′
         go (yes q) e = here (rw q (turn .last)) (rw q (turn .counter)) e
@@ -94,6 +97,34 @@ module _ (m u : List ℕ) (n : ℕ) (able : SlotsFit u n) where
         (settled-carried m u Risen n able
         (λ j v e c. ⊎-elim inl (λ (r : (lastIn v s < j) × (counterIn v s ≤ counterIn u s + 1)). inr (omega arith)) c)
         (λ j v v′ l. risen-turn j v v′)
+        (inl refl))
+
+    -- ---- and where the last changes it restarts
+
+    -- the last is as before, or a member below t took its place
+    abbrev Replaced : ℕ → List ℕ → Type 0
+    Replaced t v = (lastIn v s ≡ lastIn u s) ⊎ ((lastIn v s < t) × (counterIn v s ≡ restart (settingIn u .edition)))
+
+    replaced-turn : (j : ℕ) (v v′ : List ℕ) → Settles u v v′ j → Replaced j v → Replaced (suc j) v′
+    replaced-turn j v v′ turn c = go (ℕ-discrete s (slotOf u j)) c
+      where
+        here : lastIn v′ s ≡ j → ((lastIn v s ≡ j) × (counterIn v′ s ≡ counterIn v s + 1)) ⊎ ((lastIn v s ≢ j) × (counterIn v′ s ≡ restart (settingIn u .edition)))
+            → Replaced j v → Replaced (suc j) v′
+        here last (inl up) (inl e) = inl (omega arith)
+        here last (inl up) (inr e) = absurd (omega arith)
+        here last (inr started) e = inr (omega arith, started .1)
+
+        go : Dec (s ≡ slotOf u j) → Replaced j v → Replaced (suc j) v′
+        go (yes q) e = here (rw q (turn .last)) (rw q (turn .counter)) e
+        go (no d) (inl e) = inl (turn .others s lastField d (omega arith) ∙ e)
+        go (no d) (inr e) = inr (omega (arith, turn .others s lastField d (omega arith)), turn .others s counterField d (omega arith) ∙ e .1)
+
+    pub last-settled-changed : lastIn (settled m n u) s ≢ lastIn u s → counterIn (settled m n u) s ≡ restart (settingIn u .edition)
+    last-settled-changed changed =
+        ⊎-elim (λ (e : lastIn (settled m n u) s ≡ lastIn u s). absurd (changed e)) (λ e. e .1)
+        (settled-carried m u Replaced n able
+        (λ j v e c. ⊎-elim inl (λ (r : (lastIn v s < j) × (counterIn v s ≡ restart (settingIn u .edition))). inr (omega arith, r .1)) c)
+        (λ j v v′ l. replaced-turn j v v′)
         (inl refl))
 
   -- ---- the preferred one leads: a turn puts it at least level with its member, and never lower

@@ -8,8 +8,9 @@ use Prim.Native.Nat.{ℕ, zero, suc, _+_, _<_, _≤_}
 use native.Mathlib.Omega.{arith}
 use lib.ListN.{length}
 use lib.Dec.{eqb}
-use borrow.Author.Tests.{ltb-true, ltb-false, eqb-true}
+use borrow.Author.Tests.{ltb-true, ltb-false, eqb-true, eqb-false}
 use Rattle.loops.specs.Turns.{upTo}
+use Rattle.terms.specs.Editions.{restart}
 use Rattle.rules.specs.Layout.{
   size,
   slots,
@@ -17,6 +18,8 @@ use Rattle.rules.specs.Layout.{
   recordWords,
   slotWords,
   slotAt,
+  header,
+  editionField,
   field,
   entry,
   preferredField,
@@ -29,6 +32,7 @@ use Rattle.rules.specs.Layout.{
   preferredIn,
   lastIn,
   counterIn,
+  settingIn,
 }
 use Rattle.rules.specs.Ancestry.{isMember}
 use Rattle.rules.specs.Poll.{prefer, follow, settleOne, settled}
@@ -43,6 +47,7 @@ use Rattle.rule_laws.proofs.Settled.{
   settleOne-member,
   settleOne-passed,
   length-settled,
+  header-settled-kept,
   field-settled-kept,
 }
 
@@ -59,11 +64,12 @@ pub record Settles (u v v′ : List ℕ) (j : ℕ) : Type 0 where
   -- who is preferred now leads j and who was preferred
   pub leads : preferredIn v (slotOf u j) < mostBookings → Leads u (preferredIn v′ (slotOf u j)) j (preferredIn v (slotOf u j))
   pub last : lastIn v′ (slotOf u j) ≡ j
-  -- only who was last counts on
-  pub counter : ((lastIn v (slotOf u j) ≡ j) × (counterIn v′ (slotOf u j) ≡ counterIn v (slotOf u j) + 1)) ⊎ (counterIn v′ (slotOf u j) ≡ 0)
+  -- only who was last counts on; for another one the counter restarts
+  pub counter : ((lastIn v (slotOf u j) ≡ j) × (counterIn v′ (slotOf u j) ≡ counterIn v (slotOf u j) + 1)) ⊎ ((lastIn v (slotOf u j) ≢ j) × (counterIn v′ (slotOf u j) ≡ restart (settingIn u .edition)))
 
 module _ (u v : List ℕ) (j : ℕ)
     (records : (i g : ℕ) → i < mostBookings → g < recordWords → field v i g ≡ field u i g)
+    (edition : header v editionField ≡ header u editionField)
     (below : j < mostBookings)
     (fits : slotAt (slotOf u j) counterField < length v) where
   abbrev place : ℕ
@@ -85,10 +91,15 @@ module _ (u v : List ℕ) (j : ℕ)
       word-follow-other place j middle (slotAt place preferredField) (λ e. omega arith) (λ e. omega arith)
       ∙ preferred-prefer-same place j v (omega arith)
 
-  end-counter : counterIn end place ≡ cond (eqb (lastIn v place) j) (counterIn v place + 1) 0
+  end-counter : counterIn end place ≡ cond (eqb (lastIn v place) j) (counterIn v place + 1) (restart (settingIn u .edition))
   end-counter =
       counter-follow-same place j middle (omega (arith, length-prefer place j v))
-      ∙ simp (word-prefer-other place j v (slotAt place lastField) (λ e. omega arith), word-prefer-other place j v (slotAt place counterField) (λ e. omega arith))
+      ∙ simp (
+        word-prefer-other place j v (slotAt place lastField) (λ e. omega arith),
+        word-prefer-other place j v (slotAt place counterField) (λ e. omega arith),
+        word-prefer-other place j v editionField (λ e. omega arith),
+        edition,
+      )
 
   end-leads : preferredIn v place < mostBookings → Leads u (preferredIn end place) j (preferredIn v place)
   end-leads h = rw end-preferred (go (isAbove place j v) refl)
@@ -113,10 +124,10 @@ module _ (u v : List ℕ) (j : ℕ)
       either true e = inl e
       either false e = inr e
 
-      counted : (b : Bool) → eqb (lastIn v place) j ≡ b → counterIn end place ≡ cond b (counterIn v place + 1) 0
-          → ((lastIn v place ≡ j) × (counterIn end place ≡ counterIn v place + 1)) ⊎ (counterIn end place ≡ 0)
+      counted : (b : Bool) → eqb (lastIn v place) j ≡ b → counterIn end place ≡ cond b (counterIn v place + 1) (restart (settingIn u .edition))
+          → ((lastIn v place ≡ j) × (counterIn end place ≡ counterIn v place + 1)) ⊎ ((lastIn v place ≢ j) × (counterIn end place ≡ restart (settingIn u .edition)))
       counted true q e = inl (eqb-true (lastIn v place) j q, e)
-      counted false q e = inr e
+      counted false q e = inr (eqb-false (lastIn v place) j q, e)
 
 -- ---- an invariant is carried through the turns
 
@@ -147,7 +158,7 @@ module _ (m u : List ℕ) (P : ℕ → List ℕ → Type 0) where
       settles : isMember m n ≡ true → Settles u before (settleOne m n before) n
       settles e =
           rw (settleOne-member m n before e, same)
-          (end-settles u before n (field-settled-kept m n u) (omega arith) (omega (arith, length-settled m n u, able .fits n (omega arith))))
+          (end-settles u before n (field-settled-kept m n u) (header-settled-kept m n u editionField (omega arith)) (omega arith) (omega (arith, length-settled m n u, able .fits n (omega arith))))
 
       go : (b : Bool) → isMember m n ≡ b → P n before → P (suc n) (settleOne m n before)
       go true e h = turn n before (settleOne m n before) (omega arith) (settles e) h

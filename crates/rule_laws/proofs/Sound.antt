@@ -64,7 +64,6 @@ module _ (w : List ℕ) (e : isSound w ≡ true) where
     setting = header-rules .setting;
     pollsMost = header-rules .pollsMost;
     spareZero = header-rules .spareZero;
-    spareZeroToo = header-rules .spareZeroToo;
     genesisName = genesis-rules .name;
     genesisSlot = genesis-rules .slot;
     genesisParents = genesis-rules .parents;
@@ -100,7 +99,6 @@ module _ (w : List ℕ) (sound : Sound w) where
     setting = sound .setting;
     pollsMost = sound .pollsMost;
     spareZero = sound .spareZero;
-    spareZeroToo = sound .spareZeroToo;
   }
 
   genesis-kept : Genesis w

@@ -19,6 +19,8 @@ use Rattle.rules.specs.Layout.{
   header,
   field,
   entry,
+  pollsField,
+  spareField,
   withHeader,
   withField,
   withEntry,
@@ -153,9 +155,15 @@ module _ (w : List ℕ) (s : ℕ) (r : List ℕ) where
 
 -- ---- what is read from several words stays where they do
 
-pub settingIn-kept : (w u : List ℕ) → ((g : ℕ) → 1 ≤ g → g ≤ 4 → header u g ≡ header w g) → settingIn u ≡ settingIn w
+pub settingIn-kept : (w u : List ℕ) → ((g : ℕ) → 1 ≤ g → g < spareField → g ≢ pollsField → header u g ≡ header w g) → settingIn u ≡ settingIn w
 settingIn-kept w u h =
-    simp (h 1 (omega arith) (omega arith), h 2 (omega arith) (omega arith), h 3 (omega arith) (omega arith), h 4 (omega arith) (omega arith))
+    simp (
+      h 1 (omega arith) (omega arith) (omega arith),
+      h 2 (omega arith) (omega arith) (omega arith),
+      h 3 (omega arith) (omega arith) (omega arith),
+      h 4 (omega arith) (omega arith) (omega arith),
+      h 6 (omega arith) (omega arith) (omega arith),
+    )
 
 pub nameOf-kept : (w u : List ℕ) (i j : ℕ) → ((g : ℕ) → g < 4 → field u i g ≡ field w j g) → nameOf u i ≡ nameOf w j
 nameOf-kept w u i j h = simp (h 0 (omega arith), h 1 (omega arith), h 2 (omega arith), h 3 (omega arith))

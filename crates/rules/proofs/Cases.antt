@@ -1,4 +1,4 @@
--- Document 01, "Cases on each side": P1 to P12, and those of CR 1 and CR 5, one table under one statement, computed from the definitions on whole workspaces.
+-- Document 01, "Cases on each side": P1 to P12, and those of CR 1, CR 5 and CR 7, one table under one statement, computed from the definitions on whole workspaces.
 -- Every step is a call with its refusals, as a user would make it, and every reading the number and the value that come back: a refusal is not taken for a 0.
 use mathlib.Core.Path.{_≡_, sym, ap, ap₂, _∙_}
 use mathlib.Core.List.{List, [], _∷_, _++_}
@@ -32,7 +32,6 @@ use Rattle.rules.specs.Layout.{
   withHeader,
   bookingsField,
   kField,
-  spareField,
   slotField,
   confidenceField,
   markField,
@@ -42,11 +41,12 @@ use Rattle.rules.specs.Layout.{
   withEntry,
 }
 use Rattle.terms.specs.Votes.{voteOf}
+use Rattle.terms.specs.Editions.{restart, enough, failureClears}
 use Rattle.rules.specs.Ancestry.{ancestry, sweep, spread}
 use Rattle.rules.specs.IsSound.{headerGood, genesisGood, bookingGood, parentsGood, stateGood, markGood, chits, bookingsOf}
 use Rattle.rules.specs.Open.{opened, openWord}
 use Rattle.rules.specs.Book.{lookUp, hasUnknown, hasTwice, entered, booked}
-use Rattle.rules.specs.Poll.{polled, raiseOne, prefer, follow, settleOne}
+use Rattle.rules.specs.Poll.{polled, raiseOne, prefer, follow, settleOne, clearOne}
 use Rattle.rules.specs.Marks.{meetsRule, anotherMarked, markOne}
 use Rattle.rules.specs.Readings.{queryOf, rivalsMost, leadOf, sizeOf}
 use Rattle.rules.specs.Calls.{openCall, bookBy, pollBy, readBy, bookCall, pollCall, readCall}
@@ -83,11 +83,11 @@ wordsAt w k n = from (λ f. is (getD w f 0)) k n
 abbrev unopened : List ℕ
 unopened = replicate size 0
 
--- ---- P1 to P8 and P11: bookings 1 and 2 of slot 7, 3 below 1, and 4 below both
+-- ---- P1 to P8 and P11, by edition 0: bookings 1 and 2 of slot 7, 3 below 1, and 4 below both
 
 unfoldable pub diamond : CallsMade → List (List Got)
 diamond c =
-    let empty = openCall unopened (settingOf 3 2 1 2) .words in
+    let empty = openCall unopened (settingOf 3 2 1 2 0) .words in
     let booked1 = c .book empty 1 7 (0 ∷ []) .words in
     let booked2 = c .book booked1 2 7 (0 ∷ []) .words in
     let booked3 = c .book booked2 3 9 (1 ∷ []) .words in
@@ -142,11 +142,11 @@ diamondSays =
     ∷ (is 2 ∷ is 1 ∷ is 0 ∷ is 2 ∷ [])
     ∷ []
 
--- ---- P9, P10 and P12: a booking alone in its slot, and two settings
+-- ---- P9, P10 and P12, by edition 0: a booking alone in its slot, and two settings
 
 unfoldable pub alone : CallsMade → List (List Got)
 alone c =
-    let booked = c .book (c .book (openCall unopened (settingOf 1 1 1 2) .words) 1 7 (0 ∷ []) .words) 2 8 (1 ∷ []) .words in
+    let booked = c .book (c .book (openCall unopened (settingOf 1 1 1 2 0) .words) 1 7 (0 ∷ []) .words) 2 8 (1 ∷ []) .words in
     let poll1 = c .poll booked 1 (1 ∷ []) .words in
     let poll2 = c .poll poll1 2 (1 ∷ []) .words in
     -- P9: after the first poll the counter, and accepted of 1
@@ -154,7 +154,7 @@ alone c =
     -- P10: after the second
     ∷ (is (counterIn poll2 7) ∷ got (c .ask Accepted poll2 1) ∷ [])
     -- P12: k = 2 with a = 1, and with a = 2
-    ∷ (got (openCall unopened (settingOf 2 1 1 2) .answer) ∷ got (openCall unopened (settingOf 2 2 1 2) .answer) ∷ [])
+    ∷ (got (openCall unopened (settingOf 2 1 1 2 0) .answer) ∷ got (openCall unopened (settingOf 2 2 1 2 0) .answer) ∷ [])
     ∷ []
 
 unfoldable pub aloneSays : List (List Got)
@@ -168,7 +168,7 @@ aloneSays =
 
 unfoldable pub rivals : CallsMade → List (List Got)
 rivals c =
-    let booked = c .book (c .book (c .book (openCall unopened (settingOf 1 1 1 1) .words) 1 7 (0 ∷ []) .words) 2 8 (1 ∷ []) .words) 3 7 (0 ∷ []) .words in
+    let booked = c .book (c .book (c .book (openCall unopened (settingOf 1 1 1 1 0) .words) 1 7 (0 ∷ []) .words) 2 8 (1 ∷ []) .words) 3 7 (0 ∷ []) .words in
     let poll2 = c .poll (c .poll booked 1 (1 ∷ []) .words) 2 (1 ∷ []) .words in
     let unmarked = withField poll2 1 markField 0 in
     let parted = withEntry unmarked 7 lastField 3 in
@@ -204,7 +204,7 @@ rivalsSay =
 
 unfoldable pub resting : CallsMade → List (List Got)
 resting c =
-    let first = c .book (c .book (openCall unopened (settingOf 1 1 1 510) .words) 1 7 (0 ∷ []) .words) 2 8 (0 ∷ 1 ∷ []) .words in
+    let first = c .book (c .book (openCall unopened (settingOf 1 1 1 510 0) .words) 1 7 (0 ∷ []) .words) 2 8 (0 ∷ 1 ∷ []) .words in
     let booked = c .book (c .book first 3 7 (0 ∷ []) .words) 4 9 (2 ∷ []) .words in
     let poll4 = c .poll (c .poll booked 2 (1 ∷ []) .words) 4 (1 ∷ []) .words in
     -- counters of slots 7 and 8 are above β1: 1 has a rival and is not accepted, and 2, alone in its slot, has a second parent that isn't
@@ -218,7 +218,7 @@ restingSays = (is 2 ∷ is 2 ∷ is 0 ∷ is 0 ∷ []) ∷ []
 
 unfoldable pub late : CallsMade → List (List Got)
 late c =
-    let first = c .book (c .book (openCall unopened (settingOf 1 1 1 2) .words) 1 7 (0 ∷ []) .words) 2 8 (1 ∷ []) .words in
+    let first = c .book (c .book (openCall unopened (settingOf 1 1 1 2 0) .words) 1 7 (0 ∷ []) .words) 2 8 (1 ∷ []) .words in
     let accepted = c .poll (c .poll first 1 (1 ∷ []) .words) 2 (1 ∷ []) .words in
     let rivalled = c .book accepted 3 7 (0 ∷ []) .words in
     let booked = c .book (c .book (c .book rivalled 4 11 (3 ∷ []) .words) 5 12 (3 ∷ []) .words) 6 13 (3 ∷ []) .words in
@@ -226,19 +226,19 @@ late c =
     let overtaken = c .poll (c .poll poll4 5 (1 ∷ []) .words) 6 (1 ∷ []) .words in
     -- marks of the genesis, 1 and 2, and that 1 meets the rule
     (got (c .ask Accepted accepted 0) ∷ got (c .ask Accepted accepted 1) ∷ got (c .ask Accepted accepted 2) ∷ is (bit (meetsRule accepted 1)) ∷ [])
-    -- the rival is booked: 1 no longer meets the rule, and stays accepted
-    ∷ (is (bit (meetsRule rivalled 1)) ∷ got (c .ask Accepted rivalled 1) ∷ got (c .ask Accepted rivalled 3) ∷ [])
+    -- the rival is booked: the counter stays, 1 no longer meets the rule, and stays accepted
+    ∷ (is (counterIn rivalled 7) ∷ is (bit (meetsRule rivalled 1)) ∷ got (c .ask Accepted rivalled 1) ∷ got (c .ask Accepted rivalled 3) ∷ [])
     -- it overtakes, and meets the rule: the slot's four words; 1 stays accepted, and 3 is not
     ∷ (is (preferredIn overtaken 7) ∷ is (lastIn overtaken 7) ∷ is (counterIn overtaken 7) ∷ is (heldIn overtaken 7)
     ∷ is (bit (meetsRule overtaken 3)) ∷ got (c .ask Accepted overtaken 1) ∷ got (c .ask Accepted overtaken 3) ∷ [])
     -- a new opening marks the genesis alone
-    ∷ (got (c .ask Accepted (openCall overtaken (settingOf 1 1 1 2) .words) 0) ∷ got (c .ask Accepted (openCall overtaken (settingOf 1 1 1 2) .words) 1) ∷ [])
+    ∷ (got (c .ask Accepted (openCall overtaken (settingOf 1 1 1 2 0) .words) 0) ∷ got (c .ask Accepted (openCall overtaken (settingOf 1 1 1 2 0) .words) 1) ∷ [])
     ∷ []
 
 unfoldable pub lateSays : List (List Got)
 lateSays =
     (is 1 ∷ is 1 ∷ is 0 ∷ is 1 ∷ [])
-    ∷ (is 0 ∷ is 1 ∷ is 0 ∷ [])
+    ∷ (is 2 ∷ is 0 ∷ is 1 ∷ is 0 ∷ [])
     ∷ (is 3 ∷ is 3 ∷ is 3 ∷ is 2 ∷ is 1 ∷ is 1 ∷ is 0 ∷ [])
     ∷ (is 1 ∷ (10, pos 0) ∷ [])
     ∷ []
@@ -247,7 +247,7 @@ lateSays =
 
 unfoldable pub passing : CallsMade → List (List Got)
 passing c =
-    let first = c .book (c .book (openCall unopened (settingOf 1 1 1 2) .words) 1 7 (0 ∷ []) .words) 2 8 (1 ∷ []) .words in
+    let first = c .book (c .book (openCall unopened (settingOf 1 1 1 2 0) .words) 1 7 (0 ∷ []) .words) 2 8 (1 ∷ []) .words in
     let booked = c .book (c .book (c .book first 3 7 (0 ∷ []) .words) 4 9 (2 ∷ []) .words) 5 10 (1 ∷ []) .words in
     let poll4 = c .poll (c .poll booked 2 (1 ∷ []) .words) 4 (1 ∷ []) .words in
     let poll5 = c .poll poll4 5 (1 ∷ []) .words in
@@ -271,7 +271,7 @@ passingSays =
 -- The genesis and 1 are marked.
 abbrev chained : CallsMade → List ℕ
 chained c =
-    let booked = c .book (c .book (openCall unopened (settingOf 1 1 1 2) .words) 1 7 (0 ∷ []) .words) 2 8 (1 ∷ []) .words in
+    let booked = c .book (c .book (openCall unopened (settingOf 1 1 1 2 0) .words) 1 7 (0 ∷ []) .words) 2 8 (1 ∷ []) .words in
     c .poll (c .poll (c .book booked 3 9 (2 ∷ []) .words) 1 (1 ∷ []) .words) 2 (1 ∷ []) .words
 
 -- what a reading tells of the words
@@ -306,7 +306,7 @@ damaged c =
     -- p = n breaks a header rule and hides the damage of record and slot; the wrong length hides that too; so is what was never opened told
     ∷ (told c (withHeader confidence pollsField 4) ∷ told c (0 ∷ withHeader confidence pollsField 4) ∷ told c unopened ∷ [])
     -- damage comes before an unknown name and a name that is taken, and open does not look
-    ∷ (got (c .ask Size missing 9) ∷ got (c .ask Size counter 9) ∷ got (c .book counter 0 0 [] .answer) ∷ got (openCall confidence (settingOf 1 1 1 2) .answer) ∷ [])
+    ∷ (got (c .ask Size missing 9) ∷ got (c .ask Size counter 9) ∷ got (c .book counter 0 0 [] .answer) ∷ got (openCall confidence (settingOf 1 1 1 2 0) .answer) ∷ [])
     -- a booking and a poll are refused alike, and no word moves
     ∷ (got (refused .answer) ∷ is (bit (sameNumbers (refused .words) missing)) ∷ got (c .poll counter 3 (1 ∷ []) .answer) ∷ [])
     ∷ []
@@ -344,19 +344,89 @@ marksSay =
     ∷ ((14, pos 3) ∷ (14, pos 2) ∷ (14, pos 3) ∷ [])
     ∷ []
 
--- the genesis alone, damaged in the header
+-- ---- CR 7: edition 1, with rivals 1 and 2 of slot 7, and 3 below 1. The neighbours of P2 and P4
+
+unfoldable pub later : CallsMade → List (List Got)
+later c =
+    let empty = openCall unopened (settingOf 3 2 1 2 1) .words in
+    let booked = c .book (c .book (c .book empty 1 7 (0 ∷ []) .words) 2 7 (0 ∷ []) .words) 3 9 (1 ∷ []) .words in
+    let poll2 = c .poll booked 2 (1 ∷ 1 ∷ 255 ∷ []) .words in
+    let poll3 = c .poll poll2 3 (1 ∷ 0 ∷ 0 ∷ []) in
+    let poll1 = c .poll poll2 1 (255 ∷ 1 ∷ 255 ∷ []) in
+    let tied = c .poll poll2 1 (1 ∷ 1 ∷ 255 ∷ []) .words in
+    let rested = c .poll tied 3 (1 ∷ 1 ∷ 1 ∷ []) .words in
+    let cleared : List ℕ → List ℕ = λ w. withEntry (withEntry w 0 counterField 0) 7 counterField 0 in
+    -- the edition stands in the header's seventh word
+    wordsAt empty 0 8
+    -- beside P2: slot 7 prefers 2, its counter starts at 1, query of 3; and the counter of slot 0
+    ∷ (is (preferredIn poll2 7) ∷ is (counterIn poll2 7) ∷ got (c .ask Query poll2 3) ∷ is (counterIn poll2 0) ∷ [])
+    -- beside P4: the failed poll is taken, state, ordinal and p move, and so do the counters of slots 0 and 7, where 2 is last
+    ∷ (got (poll3 .answer)
+    ∷ is (bit (sameNumbers (poll3 .words) (cleared (withHeader (withField (withField poll2 3 stateField 1) 3 ordinalField 2) pollsField 2))))
+    ∷ [])
+    -- the same where slot 7 is the booking's own
+    ∷ (got (poll1 .answer)
+    ∷ is (bit (sameNumbers (poll1 .words) (cleared (withHeader (withField (withField poll2 1 stateField 1) 1 ordinalField 2) pollsField 2))))
+    ∷ [])
+    -- 1 draws level: it becomes last, and no draw moves the preference; then 3, which rests on it, brings it ahead, and it counts on
+    ∷ (is (preferredIn tied 7) ∷ is (lastIn tied 7) ∷ is (counterIn tied 7) ∷ is (counterIn tied 0)
+    ∷ is (preferredIn rested 7) ∷ is (counterIn rested 7) ∷ is (counterIn rested 9) ∷ [])
+    ∷ []
+
+unfoldable pub laterSays : List (List Got)
+laterSays =
+    (is 1 ∷ is 3 ∷ is 2 ∷ is 1 ∷ is 2 ∷ is 0 ∷ is 1 ∷ is 0 ∷ [])
+    ∷ (is 2 ∷ is 1 ∷ is 0 ∷ is 1 ∷ [])
+    ∷ (is 0 ∷ is 1 ∷ [])
+    ∷ (is 0 ∷ is 1 ∷ [])
+    ∷ (is 2 ∷ is 1 ∷ is 1 ∷ is 2 ∷ is 1 ∷ is 2 ∷ is 1 ∷ [])
+    ∷ []
+
+-- ---- CR 7: edition 1, a booking alone in its slot, and rivals 1 and 3 of slot 7. The neighbour of P9
+
+unfoldable pub reached : CallsMade → List (List Got)
+reached c =
+    let first = c .book (c .book (openCall unopened (settingOf 1 1 1 2 1) .words) 1 7 (0 ∷ []) .words) 2 8 (1 ∷ []) .words in
+    let alone = c .poll first 1 (1 ∷ []) .words in
+    let rivals = c .poll (c .poll (c .book first 3 7 (0 ∷ []) .words) 1 (1 ∷ []) .words) 2 (1 ∷ []) .words in
+    let poll3 = c .poll rivals 3 (1 ∷ []) .words in
+    let poll4 = c .poll (c .book poll3 4 9 (1 ∷ 3 ∷ []) .words) 4 (1 ∷ []) .words in
+    let unmarked = c .poll (withField rivals 1 markField 0) 3 (0 ∷ []) .words in
+    -- beside P9: after the first poll the counter, and accepted of 1: β1 is reached
+    (is (counterIn alone 7) ∷ got (c .ask Accepted alone 1) ∷ [])
+    -- the counter of slot 7 reaches β2: accepted of 1 and 3
+    ∷ (is (counterIn rivals 7) ∷ got (c .ask Accepted rivals 1) ∷ got (c .ask Accepted rivals 3) ∷ [])
+    -- the poll of 3 makes it last, with a counter of 1, and leaves slot 8; one that reaches both, in rising number, makes it last again
+    ∷ (is (lastIn poll3 7) ∷ is (counterIn poll3 7) ∷ is (counterIn poll3 8) ∷ is (counterIn poll3 0) ∷ is (lastIn poll4 7) ∷ is (counterIn poll4 7) ∷ [])
+    -- had 1 no mark, a failed poll of its rival would leave it without: counters are cleared before anybody is marked
+    ∷ (is (counterIn unmarked 7) ∷ got (c .ask Accepted unmarked 1) ∷ [])
+    -- an opening by edition 2 is refused
+    ∷ (got (openCall unopened (settingOf 1 1 1 2 1) .answer) ∷ got (openCall unopened (settingOf 1 1 1 2 2) .answer) ∷ [])
+    ∷ []
+
+unfoldable pub reachedSays : List (List Got)
+reachedSays =
+    (is 1 ∷ is 1 ∷ [])
+    ∷ (is 2 ∷ is 1 ∷ is 0 ∷ [])
+    ∷ (is 3 ∷ is 1 ∷ is 1 ∷ is 3 ∷ is 3 ∷ is 1 ∷ [])
+    ∷ (is 0 ∷ is 0 ∷ [])
+    ∷ (is 0 ∷ (3, pos 0) ∷ [])
+    ∷ []
+
+-- ---- the genesis alone, damaged in the header
+
 unfoldable pub headers : CallsMade → List (List Got)
 headers c =
-    let empty = openCall unopened (settingOf 1 1 1 2) .words in
-    -- nothing is damaged
-    (told c empty ∷ [])
-    -- n, the setting and the spare words are the header's
-    ∷ (told c (withHeader empty bookingsField 513) ∷ told c (withHeader empty kField 0) ∷ told c (withHeader empty spareField 1) ∷ told c (withHeader empty 7 1) ∷ [])
+    let empty = openCall unopened (settingOf 1 1 1 2 0) .words in
+    -- nothing is damaged, and not by edition 1
+    (told c empty ∷ told c (withHeader empty 6 1) ∷ [])
+    -- n, the setting, its edition too, and the spare word are the header's
+    ∷ (told c (withHeader empty bookingsField 513) ∷ told c (withHeader empty kField 0) ∷ told c (withHeader empty 6 2) ∷ told c (withHeader empty 7 1) ∷ [])
     ∷ []
 
 unfoldable pub headersSay : List (List Got)
 headersSay =
-    (is 1 ∷ [])
+    (is 1 ∷ is 1 ∷ [])
     ∷ ((2, pos 0) ∷ (2, pos 0) ∷ (2, pos 0) ∷ (2, pos 0) ∷ [])
     ∷ []
 
@@ -364,11 +434,11 @@ headersSay =
 
 -- what the cases give
 abbrev pub table : CallsMade → List (List Got)
-table c = diamond c ++ alone c ++ rivals c ++ resting c ++ late c ++ passing c ++ damaged c ++ marks c ++ headers c
+table c = diamond c ++ alone c ++ rivals c ++ resting c ++ late c ++ passing c ++ later c ++ reached c ++ damaged c ++ marks c ++ headers c
 
--- what document 01, CR 1 and CR 5 say
+-- what document 01, CR 1, CR 5 and CR 7 say
 abbrev pub says : List (List Got)
-says = diamondSays ++ aloneSays ++ rivalsSay ++ restingSays ++ lateSays ++ passingSays ++ damagedSays ++ marksSay ++ headersSay
+says = diamondSays ++ aloneSays ++ rivalsSay ++ restingSays ++ lateSays ++ passingSays ++ laterSays ++ reachedSays ++ damagedSays ++ marksSay ++ headersSay
 
 -- ---- computed with the test that walks
 
@@ -376,39 +446,47 @@ abbrev made : (List ℕ → Tested) → CallsMade
 made test = record { book = bookBy test; poll = pollBy test; ask = readBy test }
 
 diamond-walked : Passes (sameTable (diamond (made testWalked)) diamondSays)
-unfolding diamond diamondSays sameNumbers testWalked badRecordWalked badSlotWalked headerGood genesisGood bookingGood parentsGood stateGood markGood chits bookingsOf opened openWord lookUp hasUnknown hasTwice entered booked polled raiseOne prefer follow settleOne queryOf anotherMarked markOne rivalsMost leadOf sizeOf ancestry sweep spread voteOf openCall upTo firstFrom total greatest from walkFrom
+unfolding diamond diamondSays sameNumbers testWalked badRecordWalked badSlotWalked headerGood genesisGood bookingGood parentsGood stateGood markGood chits bookingsOf opened openWord lookUp hasUnknown hasTwice entered booked polled raiseOne prefer follow settleOne clearOne restart enough failureClears queryOf anotherMarked markOne rivalsMost leadOf sizeOf ancestry sweep spread voteOf openCall upTo firstFrom total greatest from walkFrom
 diamond-walked = tt
 
 alone-walked : Passes (sameTable (alone (made testWalked)) aloneSays)
-unfolding alone aloneSays testWalked badRecordWalked badSlotWalked headerGood genesisGood bookingGood parentsGood stateGood markGood chits bookingsOf opened openWord lookUp hasUnknown hasTwice entered booked polled raiseOne prefer follow settleOne queryOf anotherMarked markOne rivalsMost leadOf sizeOf ancestry sweep spread voteOf openCall upTo firstFrom total greatest from walkFrom
+unfolding alone aloneSays testWalked badRecordWalked badSlotWalked headerGood genesisGood bookingGood parentsGood stateGood markGood chits bookingsOf opened openWord lookUp hasUnknown hasTwice entered booked polled raiseOne prefer follow settleOne clearOne restart enough failureClears queryOf anotherMarked markOne rivalsMost leadOf sizeOf ancestry sweep spread voteOf openCall upTo firstFrom total greatest from walkFrom
 alone-walked = tt
 
 rivals-walked : Passes (sameTable (rivals (made testWalked)) rivalsSay)
-unfolding rivals rivalsSay testWalked badRecordWalked badSlotWalked headerGood genesisGood bookingGood parentsGood stateGood markGood chits bookingsOf opened openWord lookUp hasUnknown hasTwice entered booked polled raiseOne prefer follow settleOne queryOf anotherMarked markOne rivalsMost leadOf sizeOf ancestry sweep spread voteOf openCall upTo firstFrom total greatest from walkFrom
+unfolding rivals rivalsSay testWalked badRecordWalked badSlotWalked headerGood genesisGood bookingGood parentsGood stateGood markGood chits bookingsOf opened openWord lookUp hasUnknown hasTwice entered booked polled raiseOne prefer follow settleOne clearOne restart enough failureClears queryOf anotherMarked markOne rivalsMost leadOf sizeOf ancestry sweep spread voteOf openCall upTo firstFrom total greatest from walkFrom
 rivals-walked = tt
 
 resting-walked : Passes (sameTable (resting (made testWalked)) restingSays)
-unfolding resting restingSays testWalked badRecordWalked badSlotWalked headerGood genesisGood bookingGood parentsGood stateGood markGood chits bookingsOf opened openWord lookUp hasUnknown hasTwice entered booked polled raiseOne prefer follow settleOne queryOf anotherMarked markOne rivalsMost leadOf sizeOf ancestry sweep spread voteOf openCall upTo firstFrom total greatest from walkFrom
+unfolding resting restingSays testWalked badRecordWalked badSlotWalked headerGood genesisGood bookingGood parentsGood stateGood markGood chits bookingsOf opened openWord lookUp hasUnknown hasTwice entered booked polled raiseOne prefer follow settleOne clearOne restart enough failureClears queryOf anotherMarked markOne rivalsMost leadOf sizeOf ancestry sweep spread voteOf openCall upTo firstFrom total greatest from walkFrom
 resting-walked = tt
 
 late-walked : Passes (sameTable (late (made testWalked)) lateSays)
-unfolding late lateSays testWalked badRecordWalked badSlotWalked headerGood genesisGood bookingGood parentsGood stateGood markGood chits bookingsOf opened openWord lookUp hasUnknown hasTwice entered booked polled raiseOne prefer follow settleOne queryOf anotherMarked markOne rivalsMost leadOf sizeOf ancestry sweep spread voteOf openCall upTo firstFrom total greatest from walkFrom
+unfolding late lateSays testWalked badRecordWalked badSlotWalked headerGood genesisGood bookingGood parentsGood stateGood markGood chits bookingsOf opened openWord lookUp hasUnknown hasTwice entered booked polled raiseOne prefer follow settleOne clearOne restart enough failureClears queryOf anotherMarked markOne rivalsMost leadOf sizeOf ancestry sweep spread voteOf openCall upTo firstFrom total greatest from walkFrom
 late-walked = tt
 
 passing-walked : Passes (sameTable (passing (made testWalked)) passingSays)
-unfolding passing passingSays testWalked badRecordWalked badSlotWalked headerGood genesisGood bookingGood parentsGood stateGood markGood chits bookingsOf opened openWord lookUp hasUnknown hasTwice entered booked polled raiseOne prefer follow settleOne queryOf anotherMarked markOne rivalsMost leadOf sizeOf ancestry sweep spread voteOf openCall upTo firstFrom total greatest from walkFrom
+unfolding passing passingSays testWalked badRecordWalked badSlotWalked headerGood genesisGood bookingGood parentsGood stateGood markGood chits bookingsOf opened openWord lookUp hasUnknown hasTwice entered booked polled raiseOne prefer follow settleOne clearOne restart enough failureClears queryOf anotherMarked markOne rivalsMost leadOf sizeOf ancestry sweep spread voteOf openCall upTo firstFrom total greatest from walkFrom
 passing-walked = tt
 
+later-walked : Passes (sameTable (later (made testWalked)) laterSays)
+unfolding later laterSays sameNumbers testWalked badRecordWalked badSlotWalked headerGood genesisGood bookingGood parentsGood stateGood markGood chits bookingsOf opened openWord lookUp hasUnknown hasTwice entered booked polled raiseOne prefer follow settleOne clearOne restart enough failureClears queryOf anotherMarked markOne rivalsMost leadOf sizeOf ancestry sweep spread voteOf openCall upTo firstFrom total greatest from walkFrom
+later-walked = tt
+
+reached-walked : Passes (sameTable (reached (made testWalked)) reachedSays)
+unfolding reached reachedSays testWalked badRecordWalked badSlotWalked headerGood genesisGood bookingGood parentsGood stateGood markGood chits bookingsOf opened openWord lookUp hasUnknown hasTwice entered booked polled raiseOne prefer follow settleOne clearOne restart enough failureClears queryOf anotherMarked markOne rivalsMost leadOf sizeOf ancestry sweep spread voteOf openCall upTo firstFrom total greatest from walkFrom
+reached-walked = tt
+
 damaged-walked : Passes (sameTable (damaged (made testWalked)) damagedSays)
-unfolding damaged damagedSays sameNumbers testWalked badRecordWalked badSlotWalked headerGood genesisGood bookingGood parentsGood stateGood markGood chits bookingsOf opened openWord lookUp hasUnknown hasTwice entered booked polled raiseOne prefer follow settleOne queryOf anotherMarked markOne rivalsMost leadOf sizeOf ancestry sweep spread voteOf openCall upTo firstFrom total greatest from walkFrom
+unfolding damaged damagedSays sameNumbers testWalked badRecordWalked badSlotWalked headerGood genesisGood bookingGood parentsGood stateGood markGood chits bookingsOf opened openWord lookUp hasUnknown hasTwice entered booked polled raiseOne prefer follow settleOne clearOne restart enough failureClears queryOf anotherMarked markOne rivalsMost leadOf sizeOf ancestry sweep spread voteOf openCall upTo firstFrom total greatest from walkFrom
 damaged-walked = tt
 
 marks-walked : Passes (sameTable (marks (made testWalked)) marksSay)
-unfolding marks marksSay testWalked badRecordWalked badSlotWalked headerGood genesisGood bookingGood parentsGood stateGood markGood chits bookingsOf opened openWord lookUp hasUnknown hasTwice entered booked polled raiseOne prefer follow settleOne queryOf anotherMarked markOne rivalsMost leadOf sizeOf ancestry sweep spread voteOf openCall upTo firstFrom total greatest from walkFrom
+unfolding marks marksSay testWalked badRecordWalked badSlotWalked headerGood genesisGood bookingGood parentsGood stateGood markGood chits bookingsOf opened openWord lookUp hasUnknown hasTwice entered booked polled raiseOne prefer follow settleOne clearOne restart enough failureClears queryOf anotherMarked markOne rivalsMost leadOf sizeOf ancestry sweep spread voteOf openCall upTo firstFrom total greatest from walkFrom
 marks-walked = tt
 
 headers-walked : Passes (sameTable (headers (made testWalked)) headersSay)
-unfolding headers headersSay testWalked badRecordWalked badSlotWalked headerGood genesisGood bookingGood parentsGood stateGood markGood chits bookingsOf opened openWord lookUp hasUnknown hasTwice entered booked polled raiseOne prefer follow settleOne queryOf anotherMarked markOne rivalsMost leadOf sizeOf ancestry sweep spread voteOf openCall upTo firstFrom total greatest from walkFrom
+unfolding headers headersSay testWalked badRecordWalked badSlotWalked headerGood genesisGood bookingGood parentsGood stateGood markGood chits bookingsOf opened openWord lookUp hasUnknown hasTwice entered booked polled raiseOne prefer follow settleOne clearOne restart enough failureClears queryOf anotherMarked markOne rivalsMost leadOf sizeOf ancestry sweep spread voteOf openCall upTo firstFrom total greatest from walkFrom
 headers-walked = tt
 
 -- one ledger's rows, by the calls of the law
@@ -425,10 +503,14 @@ cases =
     (ap₂ _++_
     (ap₂ _++_
     (ap₂ _++_
+    (ap₂ _++_
+    (ap₂ _++_
     (ap₂ _++_ (ap₂ _++_ (rows-by diamond diamondSays diamond-walked) (rows-by alone aloneSays alone-walked)) (rows-by rivals rivalsSay rivals-walked))
     (rows-by resting restingSays resting-walked))
     (rows-by late lateSays late-walked))
     (rows-by passing passingSays passing-walked))
+    (rows-by later laterSays later-walked))
+    (rows-by reached reachedSays reached-walked))
     (rows-by damaged damagedSays damaged-walked))
     (rows-by marks marksSay marks-walked))
     (rows-by headers headersSay headers-walked)

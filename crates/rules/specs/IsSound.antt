@@ -1,4 +1,4 @@
--- Document 01, "A workspace is sound exactly if", CR 1 and CR 5: the test, by rows. There is the header, a row for each record number from 0 to 512,
+-- Document 01, "A workspace is sound exactly if", CR 1, CR 5 and CR 7: the test, by rows. There is the header, a row for each record number from 0 to 512,
 -- and a row for each slot; a workspace is sound where none of them breaks a rule. Sound.antt says the same sentence by sentence.
 use Prim.Native.Nat.{ℕ, suc, _+_}
 use mathlib.Core.Bool.{Bool, _&&_, _||_, not, cond}
@@ -42,11 +42,10 @@ bookingsOf w s = count (λ i. eqb (slotOf w i) s) (bookings w)
 
 -- ---- the header
 
--- n is 1 to 512, the setting is good, p ≤ n − 1, the last two header words are 0
+-- n is 1 to 512, the setting is good, its edition too, p ≤ n − 1, the last header word is 0
 unfoldable pub headerGood : List ℕ → Bool
 headerGood w =
-    leb 1 (bookings w) && leb (bookings w) mostBookings && isGood (settingIn w) && ltb (polls w) (bookings w)
-    && eqb (header w spareField) 0 && eqb (header w (spareField + 1)) 0
+    leb 1 (bookings w) && leb (bookings w) mostBookings && isGood (settingIn w) && ltb (polls w) (bookings w) && eqb (header w spareField) 0
 
 -- ---- record rows
 

@@ -1,4 +1,4 @@
--- Document 01, "Numbers that bound it" and "The workspace", and CR 5: where each word stands, and what it is called.
+-- Document 01, "Numbers that bound it" and "The workspace", CR 5 and CR 7: where each word stands, and what it is called.
 -- Widths, starts and how many there may be are named here and nowhere else (src/layout.rt has the same, for the code).
 use Prim.Native.Nat.{ℕ, _+_, _*_}
 use mathlib.Core.Bool.{Bool}
@@ -68,7 +68,7 @@ withField w i f v = set w (recordAt i f) v
 abbrev pub withEntry : List ℕ → ℕ → ℕ → ℕ → List ℕ
 withEntry w s f v = set w (slotAt s f) v
 
--- ---- the header: n, k, a, β1, β2, p, 0, 0
+-- ---- the header: n, k, a, β1, β2, p, edition, 0
 
 abbrev pub bookingsField : ℕ
 bookingsField = 0
@@ -88,15 +88,18 @@ beta2Field = 4
 abbrev pub pollsField : ℕ
 pollsField = 5
 
+abbrev pub editionField : ℕ
+editionField = 6
+
 abbrev pub spareField : ℕ
-spareField = 6
+spareField = 7
 
 -- n, how many bookings
 abbrev pub bookings : List ℕ → ℕ
 bookings w = header w bookingsField
 
 abbrev pub settingIn : List ℕ → Setting
-settingIn w = settingOf (header w kField) (header w aField) (header w beta1Field) (header w beta2Field)
+settingIn w = settingOf (header w kField) (header w aField) (header w beta1Field) (header w beta2Field) (header w editionField)
 
 -- p, how many polls were taken
 abbrev pub polls : List ℕ → ℕ

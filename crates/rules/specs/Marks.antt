@@ -1,13 +1,18 @@
 -- CR 5, after each taken poll: a booking that meets the rule of acceptance is marked, unless another in its slot is.
--- The rule is document 01's, with the parents' acceptance read from their marks. AsRead.antt says it as people read it.
+-- The rule is document 01's, with the parents' acceptance read from their marks, and CR 7's. AsRead.antt says it as people read it.
 use Prim.Native.Nat.{ℕ}
 use mathlib.Core.Bool.{Bool, _&&_, _||_, not, cond}
 use mathlib.Core.List.{List}
-use lib.Dec.{eqb, ltb}
+use lib.Dec.{eqb}
 use Rattle.loops.specs.Turns.{upTo}
 use Rattle.loops.specs.Search.{all, any}
+use Rattle.terms.specs.Editions.{enough}
 use Rattle.rules.specs.Layout.{mostParents, none, bookings, settingIn, markField, slotOf, parentOf, isMarked, counterIn, heldIn, withField}
 use Rattle.rules.specs.Readings.{isPreferred, isLast, isRival}
+
+-- the counter of j's slot is enough for β: above it, or at least by the edition
+abbrev pub counterEnough : List ℕ → ℕ → (beta : ℕ) → Bool
+counterEnough w j beta = enough (settingIn w .edition) beta (counterIn w (slotOf w j))
 
 -- place a of booking j is unused, or holds a parent that is marked
 abbrev pub parentMarked : List ℕ → ℕ → ℕ → Bool
@@ -17,13 +22,13 @@ parentMarked w j a = eqb (parentOf w j a) none || isMarked w (parentOf w j a)
 abbrev pub parentsMarked : List ℕ → ℕ → Bool
 parentsMarked w j = all (parentMarked w j) mostParents
 
--- all parents are accepted, the slot has one booking and its counter is above β1
+-- all parents are accepted, the slot has one booking and its counter is enough for β1
 abbrev pub firstArm : List ℕ → ℕ → Bool
-firstArm w j = parentsMarked w j && eqb (heldIn w (slotOf w j)) 1 && ltb (settingIn w .beta1) (counterIn w (slotOf w j))
+firstArm w j = parentsMarked w j && eqb (heldIn w (slotOf w j)) 1 && counterEnough w j (settingIn w .beta1)
 
--- the booking is both preferred and last in its slot and the counter is above β2
+-- the booking is both preferred and last in its slot and the counter is enough for β2
 abbrev pub secondArm : List ℕ → ℕ → Bool
-secondArm w j = isPreferred w j && isLast w j && ltb (settingIn w .beta2) (counterIn w (slotOf w j))
+secondArm w j = isPreferred w j && isLast w j && counterEnough w j (settingIn w .beta2)
 
 -- the genesis meets the rule; others exactly by one of the arms
 abbrev pub meetsRule : List ℕ → ℕ → Bool

@@ -1,4 +1,4 @@
--- Document 01, "Open", and CR 5: the workspace becomes a ledger with the genesis only.
+-- Document 01, "Open", CR 5 and CR 7: the workspace becomes a ledger with the genesis only.
 use Prim.Native.Nat.{ℕ, _-_, _/_, _%_}
 use mathlib.Core.Bool.{cond}
 use mathlib.Core.List.{List, [], _∷_}
@@ -8,9 +8,9 @@ use Rattle.loops.specs.Fill.{from}
 use Rattle.terms.specs.declared.setting.Setting.{Setting}
 use Rattle.rules.specs.Layout.{headerWords, recordWords, slotWords, slotsStart, size, none}
 
--- n = 1, the setting, p = 0
+-- n = 1, the setting, p = 0, the edition
 abbrev pub openHeader : Setting → List ℕ
-openHeader s = 1 ∷ s .k ∷ s .a ∷ s .beta1 ∷ s .beta2 ∷ 0 ∷ 0 ∷ 0 ∷ []
+openHeader s = 1 ∷ s .k ∷ s .a ∷ s .beta1 ∷ s .beta2 ∷ 0 ∷ s .edition ∷ 0 ∷ []
 
 -- the genesis: name 0, slot 0, no parents, state 1, confidence 0, ordinal 0, marked
 abbrev pub genesisRecord : List ℕ

@@ -1,4 +1,4 @@
--- Document 01, "Poll", and CR 5: how many votes say yes, and what a completed poll does to the words.
+-- Document 01, "Poll", CR 5 and CR 7: how many votes say yes, and what a completed poll does to the words.
 use Prim.Native.Nat.{ℕ, _+_}
 use mathlib.Core.Bool.{Bool, cond}
 use mathlib.Core.List.{List}
@@ -8,6 +8,7 @@ use Rattle.loops.specs.Turns.{upTo}
 use Rattle.loops.specs.Search.{any}
 use Rattle.loops.specs.Total.{count}
 use Rattle.terms.specs.Votes.{voteOf, isYes, isRefused}
+use Rattle.terms.specs.Editions.{restart, failureClears}
 use Rattle.rules.specs.Ancestry.{ancestry, isMember}
 use Rattle.rules.specs.Marks.{marked}
 use Rattle.rules.specs.Layout.{
@@ -58,10 +59,11 @@ raised m n w = upTo (raiseOne m) n w
 unfoldable pub prefer : ℕ → ℕ → List ℕ → List ℕ
 prefer s j w = cond (ltb (confidenceOf w (preferredIn w s)) (confidenceOf w j)) (withEntry w s preferredField j) w
 
--- 2. if j is not the last of slot s, it becomes last and the counter becomes 0; otherwise the counter rises by one
+-- 2. if j is not the last of slot s, it becomes last and the counter restarts; otherwise the counter rises by one
 unfoldable pub follow : ℕ → ℕ → List ℕ → List ℕ
 follow s j w =
-    cond (eqb (lastIn w s) j) (withEntry w s counterField (counterIn w s + 1)) (withEntry (withEntry w s lastField j) s counterField 0)
+    cond (eqb (lastIn w s) j) (withEntry w s counterField (counterIn w s + 1))
+    (withEntry (withEntry w s lastField j) s counterField (restart (settingIn w .edition)))
 
 -- both for j, in this order, if it is a member
 unfoldable pub settleOne : List ℕ → ℕ → List ℕ → List ℕ
@@ -71,15 +73,26 @@ settleOne m j w = cond (isMember m j) (follow (slotOf w j) j (prefer (slotOf w j
 abbrev pub settled : List ℕ → ℕ → List ℕ → List ℕ
 settled m n w = upTo (settleOne m) n w
 
--- on failure the state becomes 1, and nothing changes beyond what is noted
-abbrev pub failed : List ℕ → ℕ → List ℕ
-failed w i = noted w i 1
+-- the counter of j's slot becomes 0 if j is a member, whoever is last there
+unfoldable pub clearOne : List ℕ → ℕ → List ℕ → List ℕ
+clearOne m j w = cond (isMember m j) (withEntry w (slotOf w j) counterField 0) w
+
+-- the same for every member
+abbrev pub cleared : List ℕ → ℕ → List ℕ → List ℕ
+cleared m n w = upTo (clearOne m) n w
+
+-- on failure the state becomes 1. Nothing changes beyond what is noted, unless the edition has the counters of the members' slots cleared
+abbrev pub failedWith : List ℕ → List ℕ → ℕ → List ℕ
+failedWith m w i = cond (failureClears (settingIn w .edition)) (cleared m (bookings w) (noted w i 1)) (noted w i 1)
 
 -- on success the state becomes 2, every member of m gains one confidence, and then each is settled
 abbrev pub succeededWith : List ℕ → List ℕ → ℕ → List ℕ
 succeededWith m w i = settled m (bookings w) (raised m (bookings w) (noted w i 2))
 
 -- the members are those of the ancestry
+abbrev pub failed : List ℕ → ℕ → List ℕ
+failed w i = failedWith (ancestry w i) w i
+
 abbrev pub succeeded : List ℕ → ℕ → List ℕ
 succeeded w i = succeededWith (ancestry w i) w i
 

@@ -1,6 +1,6 @@
--- CR 1 and CR 5, as people read them: the rules of the header, of each record row and of each slot row. A row breaks a rule where these don't all hold of it.
+-- CR 1, CR 5 and CR 7, as people read them: the rules of the header, of each record row and of each slot row. A row breaks a rule where these don't all hold of it.
 -- rule_laws/proofs/RowRules.antt shows that the tests of IsSound.antt say the same, row by row.
-use Prim.Native.Nat.{ℕ, _+_, _≤_, _<_}
+use Prim.Native.Nat.{ℕ, _≤_, _<_}
 use mathlib.Core.Path.{_≡_}
 use mathlib.Core.List.{List}
 use mathlib.Core.Logic.{_≢_}
@@ -28,14 +28,13 @@ use Rattle.rules.specs.Layout.{
   counterIn,
 }
 
--- the header rules: the first bullet of document 01's soundness, alone
+-- the header rules: the first bullet of document 01's soundness as CR 7 amends it, alone
 pub record HeaderRules (w : List ℕ) : Type 0 where
   pub bookingsLeast : 1 ≤ bookings w
   pub bookingsMost : bookings w ≤ mostBookings
   pub setting : Good (settingIn w)
   pub pollsMost : polls w < bookings w
   pub spareZero : header w spareField ≡ 0
-  pub spareZeroToo : header w (spareField + 1) ≡ 0
 
 -- ---- record rows, by number from 0 to 512
 

@@ -1,6 +1,6 @@
--- Document 01, "A workspace is sound exactly if", and CR 5: a named field for each thing that must hold, in its order.
+-- Document 01, "A workspace is sound exactly if", CR 5 and CR 7: a named field for each thing that must hold, in its order.
 -- This is the form that people and promises read; rule_laws/proofs/Sound.antt shows that it says what the test of IsSound.antt says.
-use Prim.Native.Nat.{ℕ, _+_, _≤_, _<_}
+use Prim.Native.Nat.{ℕ, _≤_, _<_}
 use mathlib.Core.Path.{_≡_}
 use mathlib.Core.List.{List}
 use mathlib.Core.Logic.{_≢_, _↔_}
@@ -69,7 +69,6 @@ pub record Sound (w : List ℕ) : Type 0 where
   pub setting : Good (settingIn w)
   pub pollsMost : polls w < bookings w
   pub spareZero : header w spareField ≡ 0
-  pub spareZeroToo : header w (spareField + 1) ≡ 0
   -- the genesis
   pub genesisName : nameOf w 0 ≡ 0
   pub genesisSlot : slotOf w 0 ≡ 0

@@ -1,6 +1,6 @@
 // Where each word of the workspace stands. specs/Layout.antt has the same numbers, and nothing else knows them.
 //
-//   0                 header: n, k, a, beta1, beta2, p, 0, 0
+//   0                 header: n, k, a, beta1, beta2, p, edition, 0
 //   8                 512 records of 13 words: 4 of name, slot, 4 of parents, state, confidence, ordinal, mark
 //   6,664             256 slot entries of 4 words: preferred, last, counter, bookings
 //   7,688             the end
@@ -36,7 +36,9 @@ pub const BETA2: usize = 4;
 
 pub const POLLS: usize = 5;
 
-pub const SPARE: usize = 6;
+pub const EDITION: usize = 6;
+
+pub const SPARE: usize = 7;
 
 // Words of a record.
 pub const NAME: usize = 0;

@@ -16,6 +16,7 @@ fn setting(w: &[u16]) -> Setting
         a: words::header(w, layout::A),
         beta1: words::header(w, layout::BETA1),
         beta2: words::header(w, layout::BETA2),
+        edition: words::header(w, layout::EDITION),
     }
 }
 
@@ -30,5 +31,4 @@ pub fn header_good(w: &[u16]) -> bool
         & setting(w).is_good()
         & (p < n)
         & (words::header(w, layout::SPARE) == 0)
-        & (words::header(w, layout::SPARE + 1) == 0)
 }

@@ -25,11 +25,19 @@ pub extern "C" fn filz_open(
     a: u16,
     beta1: u16,
     beta2: u16,
+    edition: u16,
     value: &mut i64,
 ) -> u32
-    ensures { λ r. ⌜ Handed (openCall (now (ws .entry)) (settingOf k a beta1 beta2)) r (now (value .exit)) (now (ws .exit)) ⌝ }
+    ensures { λ r. ⌜ Handed (openCall (now (ws .entry)) (settingOf k a beta1 beta2 edition)) r (now (value .exit)) (now (ws .exit)) ⌝ }
 {
-    tell(ledger::open(ws, Setting { k, a, beta1, beta2 }), value)
+    let setting = Setting {
+        k,
+        a,
+        beta1,
+        beta2,
+        edition,
+    };
+    tell(ledger::open(ws, setting), value)
 }
 
 // One booking more. Refusals 1, 2, 14, 15, 4, 5, 6, 7, 8, 9.

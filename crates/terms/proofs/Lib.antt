@@ -1,4 +1,5 @@
--- Cases of the definitions in specs/, computed, and the law of states.
+-- Cases of the definitions in specs/, computed, and the laws of states and of editions.
 pub mod Cases
 pub mod States
+pub mod Editions
 pub mod Answers

@@ -2,12 +2,13 @@
 ghost use mathlib.Core.Path.{_≡_};
 ghost use Rattle.terms.specs.Setting.{isGood, paperSetting};
 
-// k votes in a poll, a yes votes needed, beta1 and beta2.
+// k votes in a poll, a yes votes needed, beta1 and beta2, and the edition of the rules.
 pub struct Setting {
     pub k: u16,
     pub a: u16,
     pub beta1: u16,
     pub beta2: u16,
+    pub edition: u16,
 }
 
 impl Setting {
@@ -29,6 +30,11 @@ impl Setting {
 
     pub const MOST_BETA: u16 = 510;
 
+    // The editions of the rules: the first paper's, and the later one's.
+    pub const FIRST_EDITION: u16 = 0;
+
+    pub const LATER_EDITION: u16 = 1;
+
     pub fn paper() -> Setting
         ensures { λ r. ⌜ r ≡ paperSetting ⌝ }
     {
@@ -37,6 +43,7 @@ impl Setting {
             a: Setting::PAPER_A,
             beta1: Setting::PAPER_BETA1,
             beta2: Setting::PAPER_BETA2,
+            edition: Setting::FIRST_EDITION,
         }
     }
 
@@ -47,6 +54,7 @@ impl Setting {
         let a = self.a;
         let beta1 = self.beta1;
         let beta2 = self.beta2;
+        let edition = self.edition;
         (Setting::LEAST_K <= k)
             & (k <= Setting::MOST_K)
             & (a <= k)
@@ -54,5 +62,6 @@ impl Setting {
             & (Setting::LEAST_BETA <= beta1)
             & (beta1 <= beta2)
             & (beta2 <= Setting::MOST_BETA)
+            & (edition <= Setting::LATER_EDITION)
     }
 }

@@ -10,6 +10,7 @@ use Rattle.loops.specs.Fill.{from}
 use Rattle.loops.specs.Rows.{walkFrom}
 use Rattle.terms.specs.declared.setting.Setting.{Setting}
 use Rattle.terms.specs.Setting.{settingOf}
+use Rattle.terms.specs.Editions.{restart, enough, failureClears}
 use Rattle.terms.specs.declared.answer.Answer.{Answer}
 use Rattle.terms.specs.declared.answer.Tested.{Tested}
 use Rattle.terms.specs.declared.answer.Reading.{Reading}
@@ -20,7 +21,7 @@ use Rattle.rules.specs.Ancestry.{ancestry, sweep, spread}
 use Rattle.rules.specs.IsSound.{headerGood, genesisGood, bookingGood, parentsGood, stateGood, markGood, chits, bookingsOf}
 use Rattle.rules.specs.Open.{opened, openWord}
 use Rattle.rules.specs.Book.{lookUp, hasUnknown, hasTwice, entered, booked}
-use Rattle.rules.specs.Poll.{polled, raiseOne, prefer, follow, settleOne}
+use Rattle.rules.specs.Poll.{polled, raiseOne, prefer, follow, settleOne, clearOne}
 use Rattle.rules.specs.Marks.{anotherMarked, markOne}
 use Rattle.rules.specs.Calls.{tested, openCall, bookBy, pollBy, readBy, bookCall, pollCall, readCall}
 use Rattle.rules.specs.Listing.{listCall}
@@ -35,7 +36,7 @@ use Rattle.text_listing.specs.Listed.{listRow, rowsPrint, listPrints, li
 -- ---- the example
 
 abbrev pub setting : Setting
-setting = settingOf 3 2 1 2
+setting = settingOf 3 2 1 2 0
 
 -- the calls that an example makes
 pub record ExampleCalls : Type 0 where
@@ -97,7 +98,7 @@ abbrev unopened : List ℕ
 unopened = replicate size 0
 
 run-walked : Passes (sameNumbers (runPrints (made testWalked) unopened) runSays)
-unfolding runPrints sameNumbers listRow rowsPrint listPrints rowPrints digitsOf decimal testWalked badRecordWalked badSlotWalked headerGood genesisGood bookingGood parentsGood stateGood markGood chits bookingsOf opened openWord lookUp hasUnknown hasTwice entered booked polled raiseOne prefer follow settleOne anotherMarked markOne ancestry sweep spread voteOf openCall upTo firstFrom total greatest from walkFrom
+unfolding runPrints sameNumbers listRow rowsPrint listPrints rowPrints digitsOf decimal testWalked badRecordWalked badSlotWalked headerGood genesisGood bookingGood parentsGood stateGood markGood chits bookingsOf opened openWord lookUp hasUnknown hasTwice entered booked polled raiseOne prefer follow settleOne clearOne restart enough failureClears anotherMarked markOne ancestry sweep spread voteOf openCall upTo firstFrom total greatest from walkFrom
 run-walked = tt
 
 pub calls-walked : theCalls ≡ made testWalked

@@ -7,3 +7,4 @@ pub mod Keeping
 pub mod Example
 pub mod Readings
 pub mod Stays
+pub mod Editions

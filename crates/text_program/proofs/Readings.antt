@@ -9,13 +9,14 @@ use Rattle.loops.specs.Total.{total, greatest}
 use Rattle.loops.specs.Fill.{from}
 use Rattle.loops.specs.Rows.{walkFrom}
 use Rattle.terms.specs.Setting.{settingOf}
+use Rattle.terms.specs.Editions.{restart, enough, failureClears}
 use Rattle.terms.specs.Votes.{voteOf}
 use Rattle.terms.specs.declared.answer.Reading.the-variants.{Query, Accepted, Lead, Confidence, Size}
 use Rattle.rules.specs.Ancestry.{ancestry, sweep, spread}
 use Rattle.rules.specs.IsSound.{headerGood, genesisGood, bookingGood, parentsGood, stateGood, markGood, chits, bookingsOf}
 use Rattle.rules.specs.Open.{opened, openWord}
 use Rattle.rules.specs.Book.{lookUp, hasUnknown, hasTwice, entered, booked}
-use Rattle.rules.specs.Poll.{polled, raiseOne, prefer, follow, settleOne}
+use Rattle.rules.specs.Poll.{polled, raiseOne, prefer, follow, settleOne, clearOne}
 use Rattle.rules.specs.Marks.{anotherMarked, markOne}
 use Rattle.rules.specs.Readings.{queryOf, rivalsMost, leadOf, sizeOf}
 use Rattle.rules.specs.Calls.{openCall}
@@ -67,7 +68,7 @@ readingsSay = bytes "refused 2\n1\n-1\n0\n1\nrefused 10\nbad line\n2\n"
 
 unfoldable readingsPrint : ExampleCalls → List ℕ → List ℕ
 readingsPrint c w =
-    let empty = openCall w (settingOf 1 1 1 2) in
+    let empty = openCall w (settingOf 1 1 1 2 0) in
     let book1 = c .book (empty .words) 1 7 (0 ∷ []) in
     let book2 = c .book (book1 .words) 2 7 (0 ∷ []) in
     let poll2 = c .poll (book2 .words) 2 (1 ∷ []) in
@@ -96,7 +97,7 @@ unfolding printed served lineSays openSays readSays bookSays pollSays leading ma
 readings-calls w = refl
 
 readings-walked : Passes (sameNumbers (readingsPrint (made testWalked) zeros) readingsSay)
-unfolding readingsPrint sameNumbers digitsOf decimal signed testWalked badRecordWalked badSlotWalked headerGood genesisGood bookingGood parentsGood stateGood markGood chits bookingsOf opened openWord lookUp hasUnknown hasTwice entered booked polled raiseOne prefer follow settleOne anotherMarked markOne queryOf rivalsMost leadOf sizeOf ancestry sweep spread voteOf openCall upTo firstFrom total greatest from walkFrom
+unfolding readingsPrint sameNumbers digitsOf decimal signed testWalked badRecordWalked badSlotWalked headerGood genesisGood bookingGood parentsGood stateGood markGood chits bookingsOf opened openWord lookUp hasUnknown hasTwice entered booked polled raiseOne prefer follow settleOne clearOne restart enough failureClears anotherMarked markOne queryOf rivalsMost leadOf sizeOf ancestry sweep spread voteOf openCall upTo firstFrom total greatest from walkFrom
 readings-walked = tt
 
 pub readings-print : program readingsInput ≡ readingsSay

@@ -9,13 +9,14 @@ use Rattle.loops.specs.Total.{total, greatest}
 use Rattle.loops.specs.Fill.{from}
 use Rattle.loops.specs.Rows.{walkFrom}
 use Rattle.terms.specs.Setting.{settingOf}
+use Rattle.terms.specs.Editions.{restart, enough, failureClears}
 use Rattle.terms.specs.Votes.{voteOf}
 use Rattle.terms.specs.declared.answer.Reading.the-variants.{Accepted}
 use Rattle.rules.specs.Ancestry.{ancestry, sweep, spread}
 use Rattle.rules.specs.IsSound.{headerGood, genesisGood, bookingGood, parentsGood, stateGood, markGood, chits, bookingsOf}
 use Rattle.rules.specs.Open.{opened, openWord}
 use Rattle.rules.specs.Book.{lookUp, hasUnknown, hasTwice, entered, booked}
-use Rattle.rules.specs.Poll.{polled, raiseOne, prefer, follow, settleOne}
+use Rattle.rules.specs.Poll.{polled, raiseOne, prefer, follow, settleOne, clearOne}
 use Rattle.rules.specs.Marks.{anotherMarked, markOne}
 use Rattle.rules.specs.Calls.{openCall}
 use Rattle.rules.proofs.Same.{Passes, passes, sameNumbers, same-numbers}
@@ -63,7 +64,7 @@ staysSay =
 
 unfoldable staysPrint : ExampleCalls → List ℕ → List ℕ
 staysPrint c w =
-    let empty = openCall w (settingOf 1 1 1 2) in
+    let empty = openCall w (settingOf 1 1 1 2 0) in
     let book1 = c .book (empty .words) 1 7 (0 ∷ []) in
     let book2 = c .book (book1 .words) 2 8 (1 ∷ []) in
     let poll1 = c .poll (book2 .words) 1 (1 ∷ []) in
@@ -89,7 +90,7 @@ unfolding printed served lineSays openSays readSays bookSays pollSays leading ma
 stays-calls w = refl
 
 stays-walked : Passes (sameNumbers (staysPrint (made testWalked) zeros) staysSay)
-unfolding staysPrint sameNumbers listRow rowsPrint listPrints rowPrints digitsOf decimal signed testWalked badRecordWalked badSlotWalked headerGood genesisGood bookingGood parentsGood stateGood markGood chits bookingsOf opened openWord lookUp hasUnknown hasTwice entered booked polled raiseOne prefer follow settleOne anotherMarked markOne ancestry sweep spread voteOf openCall upTo firstFrom total greatest from walkFrom
+unfolding staysPrint sameNumbers listRow rowsPrint listPrints rowPrints digitsOf decimal signed testWalked badRecordWalked badSlotWalked headerGood genesisGood bookingGood parentsGood stateGood markGood chits bookingsOf opened openWord lookUp hasUnknown hasTwice entered booked polled raiseOne prefer follow settleOne clearOne restart enough failureClears anotherMarked markOne ancestry sweep spread voteOf openCall upTo firstFrom total greatest from walkFrom
 stays-walked = tt
 
 pub stays-print : program staysInput ≡ staysSay

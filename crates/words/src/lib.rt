@@ -8,7 +8,6 @@ ghost use lib.ListN.{length};
 ghost use lib.Dec.{eqb};
 ghost use Rattle.loops.specs.Fill.{from};
 ghost use Rattle.loops.specs.Total.{bit};
-ghost use Rattle.terms.specs.Setting.{settingNumbers};
 ghost use Rattle.rules.specs.Layout.{
   size,
   mostBookings,
@@ -17,13 +16,13 @@ ghost use Rattle.rules.specs.Layout.{
   slots,
   slotWords,
   headerWords,
+  kField,
   header,
   field,
   entry,
   withHeader,
   withField,
   withEntry,
-  settingIn,
   nameOf,
   parentOf,
   stateOf,
@@ -51,10 +50,10 @@ pub fn header(w: &[u16], f: usize) -> u16
     word
 }
 
-// The four words of the setting.
+// The four words of the setting that stand beside each other: k, a, beta1, beta2. The edition stands apart.
 pub fn setting(w: &[u16]) -> &[u16]
     requires { ⌜ length (now w) ≡ size ⌝ }
-    ensures { λ r. ⌜ now r ≡ settingNumbers (settingIn (now (w .entry))) ⌝ }
+    ensures { λ r. ⌜ now r ≡ from (header (now (w .entry))) kField 4 ⌝ }
 {
     let start = layout::K;
     let end = layout::POLLS;

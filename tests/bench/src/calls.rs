@@ -6,8 +6,9 @@
 //! busy machine more than half of one side's samples can be interrupted, and
 //! the middle one with them. A single call is seldom interrupted.
 
-use crate::ledgers::{case, words_for, SIZES};
+use crate::ledgers::{case, rows, words_for, SIZES};
 use random::call::{Beside, Call, Face, Second};
+use second::layout::EDITION;
 use std::hint::black_box;
 use std::time::{Duration, Instant};
 
@@ -21,6 +22,7 @@ const BATCH: usize = 8;
 
 /// What a call costs on a ledger of `n`, in nanoseconds.
 pub struct Cost {
+    /// The row: a kind of call, or one that is made otherwise.
     pub kind: &'static str,
     pub n: usize,
     /// Nothing if the product was not linked.
@@ -45,7 +47,7 @@ const OURS: Option<&dyn Face> = None;
 
 pub fn measure(before: Option<&dyn Face>) -> Vec<Cost> {
     let mut costs = Vec::new();
-    for kind in Call::KINDS {
+    for kind in rows() {
         for n in SIZES {
             costs.push(measure_case(kind, n, before));
         }
@@ -60,8 +62,10 @@ fn measure_case(kind: &'static str, n: usize, before: Option<&dyn Face>) -> Cost
     let (mut lent, mut bytes) = (case.ws.clone(), case.call.lent_bytes());
     let (index, mut cells) = (case.call.lent_cells(), case.call.lent_cells());
     let (call, reading) = (&case.call, &case.reading());
-    // An older build may ask for fewer words than there are now.
-    let before = before.filter(|face| face.has(kind));
+    // An older build may ask for fewer words than there are now, and know
+    // nothing of editions.
+    let before =
+        before.filter(|face| face.has(kind) && (face.has_editions() || case.ws[EDITION] == 0));
     let sized = before.and_then(|face| Some((face, words_for(face)?)));
     let older = sized.map_or(Vec::new(), |(face, words)| case.words_by(face, words));
     let sides: [(Option<&dyn Face>, &Call, &[u16]); 5] = [

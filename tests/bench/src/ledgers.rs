@@ -2,8 +2,8 @@
 //!
 //! Every booking has the two before it as parents, so that the ancestry of
 //! the last is the whole ledger. Slots are taken in turn, names are spread
-//! over all 64 bits, the setting is the paper's, and every booking but the
-//! last has a chit. The day file, written or read, is that of a ledger with
+//! over all 64 bits, the setting is the paper's, in the first edition but for
+//! two rows, and every booking but the last has a chit. The day file, written or read, is that of a ledger with
 //! four parents each and every booking polled: no file of so many bookings is
 //! longer. An index is the built one, and before the last booking is entered that
 //! of all others.
@@ -37,10 +37,40 @@ fn parents(b: usize, count: usize) -> Vec<u64> {
     (b.saturating_sub(count)..b).map(name).collect()
 }
 
+/// Just enough yes votes.
 fn votes() -> Vec<u8> {
-    let Setting { k, a, .. } = Setting::PAPER;
-    (0..k).map(|place| u8::from(place < a)).collect()
+    yes_votes(Setting::PAPER.a)
 }
+
+fn yes_votes(count: u16) -> Vec<u8> {
+    let places = 0..Setting::PAPER.k;
+    places.map(|place| u8::from(place < count)).collect()
+}
+
+/// A poll that fails, and polls of the later edition, beside the kinds of
+/// calls.
+const FAILS: &str = "poll fails";
+const LATER: &str = "poll later";
+const FAILS_LATER: &str = "fails later";
+
+/// The rows of the table: each kind of call, and the other polls behind the
+/// first.
+pub fn rows() -> Vec<&'static str> {
+    let others = |kind| match kind {
+        "poll" => &[FAILS, LATER, FAILS_LATER][..],
+        _ => &[],
+    };
+    let kinds = Call::KINDS.into_iter();
+    kinds
+        .flat_map(|kind| [&[kind], others(kind)].concat())
+        .collect()
+}
+
+/// The paper's setting in the later edition.
+const PAPER_LATER: Setting = Setting {
+    edition: Setting::LATER,
+    ..Setting::PAPER
+};
 
 /// Parents of a booking, where there are so many.
 const USUAL_PARENTS: usize = 2;
@@ -68,7 +98,10 @@ fn usual(n: usize) -> Vec<Call> {
 
 /// The second program's ledger after these calls.
 fn ledger(calls: &[Call]) -> Ledger {
-    let mut ledger = Ledger::open(Setting::PAPER).expect("the paper's setting is good");
+    let Call::Open(setting) = calls[0] else {
+        unreachable!("a ledger is opened first");
+    };
+    let mut ledger = Ledger::open(setting).expect("the paper's setting is good");
     for call in &calls[1..] {
         match call {
             Call::Book {
@@ -130,7 +163,7 @@ fn index(count: usize) -> Cells {
     })
 }
 
-/// The case of each kind of call on a ledger of `n`.
+/// The case of each row on a ledger of `n`.
 pub fn case(kind: &str, n: usize) -> Case {
     let last = name(n - 1);
     let mut calls = usual(n);
@@ -150,13 +183,17 @@ pub fn case(kind: &str, n: usize) -> Case {
                 parents: parents(b, USUAL_PARENTS),
             }
         }
-        "poll" => {
+        "poll" | FAILS | LATER | FAILS_LATER => {
             if n == 1 {
                 note = "refused: the genesis is polled".to_string();
             }
+            if kind == LATER || kind == FAILS_LATER {
+                calls[0] = Call::Open(PAPER_LATER);
+            }
+            let is_success = kind == "poll" || kind == LATER;
             Call::Poll {
                 name: last,
-                votes: votes(),
+                votes: yes_votes(Setting::PAPER.a - u16::from(!is_success)),
             }
         }
         "write_first" | "read_first" => {

@@ -15,8 +15,10 @@ use std::path::{Path, PathBuf};
 use std::process::ExitCode;
 
 const USAGE: &str = "\
-bench [--before PATH] [--known PATH] [--ours PATH --second PATH] [--svg PATH]
+bench [--before PATH | --before-four PATH] [--known PATH] [--ours PATH --second PATH] [--svg PATH]
   --before           another build of the product, a shared object
+  --before-four      the same, from before there were editions: its filz_open
+                     takes four numbers, and it is left out where an edition is told
   --known            its lookups on words known to be a ledger, a shared object
   --ours, --second   the two console programs
   --svg              where the picture goes, else beside this program";
@@ -29,7 +31,8 @@ fn main() -> ExitCode {
     if cfg!(debug_assertions) {
         println!("note: this is not a release build");
     }
-    let before = order.before.as_deref().map(load).transpose();
+    let load = |(path, has_editions): &(PathBuf, bool)| load(path, *has_editions);
+    let before = order.before.as_ref().map(load).transpose();
     let known = order.known.as_deref().map(load_known).transpose();
     let (before, known) = match (before, known) {
         (Ok(before), Ok(known)) => (before, known),
@@ -62,15 +65,15 @@ fn main() -> ExitCode {
 
 /// Another build of the product.
 #[cfg(feature = "station")]
-fn load(path: &Path) -> Result<Box<dyn Face>, String> {
-    let face = random::station::Station::load(path)?;
+fn load(path: &Path, has_editions: bool) -> Result<Box<dyn Face>, String> {
+    let face = random::station::Station::load(path, has_editions)?;
     match ledgers::words_for(&face) {
         Some(_) => Ok(Box::new(face)),
         None => Err(format!("{} opens no workspace", path.display())),
     }
 }
 #[cfg(not(feature = "station"))]
-fn load(_: &Path) -> Result<Box<dyn Face>, String> {
+fn load(_: &Path, _: bool) -> Result<Box<dyn Face>, String> {
     Err("--before compares with the product, which is not linked".to_string())
 }
 
@@ -85,7 +88,8 @@ fn load_known(_: &Path) -> Result<Box<dyn Face>, String> {
 }
 
 struct Order {
-    before: Option<PathBuf>,
+    /// With whether it knows of editions.
+    before: Option<(PathBuf, bool)>,
     known: Option<PathBuf>,
     ours: Option<PathBuf>,
     second: Option<PathBuf>,
@@ -105,7 +109,8 @@ impl Order {
         while let Some(argument) = arguments.next() {
             let path = PathBuf::from(arguments.next()?);
             match &argument[..] {
-                "--before" => order.before = Some(path),
+                "--before" => order.before = Some((path, true)),
+                "--before-four" => order.before = Some((path, false)),
                 "--known" => order.known = Some(path),
                 "--ours" => order.ours = Some(path),
                 "--second" => order.second = Some(path),

@@ -1,7 +1,7 @@
 //! The cost of each call against n, as an SVG picture.
 
 use crate::calls::Cost;
-use random::call::Call;
+use crate::ledgers::rows;
 use second::layout::BOOKINGS;
 use std::fmt::Write;
 
@@ -20,7 +20,8 @@ const LOWEST: i32 = 1;
 const HIGHEST: i32 = 8;
 
 pub fn draw(costs: &[Cost]) -> String {
-    let rows = Call::KINDS.len().div_ceil(COLUMNS);
+    let panels = rows();
+    let rows = panels.len().div_ceil(COLUMNS);
     let (width, height) = (COLUMNS as f64 * WIDTH, HEAD + rows as f64 * HEIGHT);
     let mut svg = format!(
         "<svg xmlns=\"http://www.w3.org/2000/svg\" width=\"{width}\" height=\"{height}\" \
@@ -44,7 +45,7 @@ pub fn draw(costs: &[Cost]) -> String {
         line(&mut svg, &[(x, 32.0), (x + 24.0, 32.0)], stroke);
         text(&mut svg, x + 30.0, 36.0, "start", label);
     }
-    for (i, kind) in Call::KINDS.into_iter().enumerate() {
+    for (i, kind) in panels.into_iter().enumerate() {
         let x = (i % COLUMNS) as f64 * WIDTH;
         let y = HEAD + (i / COLUMNS) as f64 * HEIGHT;
         let costs: Vec<&Cost> = costs.iter().filter(|cost| cost.kind == kind).collect();

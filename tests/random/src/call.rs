@@ -164,6 +164,11 @@ pub trait Face {
     fn has(&self, _kind: &str) -> bool {
         true
     }
+
+    /// Does it know of editions?
+    fn has_editions(&self) -> bool {
+        true
+    }
 }
 
 /// The second program.
@@ -173,7 +178,7 @@ impl Face for Second {
     fn call(&self, ws: &mut [u16], beside: Beside, call: &Call) -> Answer {
         let Beside { bytes, cells } = beside;
         match call {
-            Call::Open(s) => words::open(ws, s.k, s.a, s.beta1, s.beta2),
+            Call::Open(s) => words::open(ws, s.k, s.a, s.beta1, s.beta2, s.edition),
             Call::Book {
                 name,
                 slot,

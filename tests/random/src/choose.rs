@@ -142,7 +142,7 @@ pub fn write_into(prng: &mut Prng, room: usize) -> Call {
 /// one, for the longest, and at times so much that its low sixteen bits are
 /// too little.
 fn any_room(prng: &mut Prng, length: usize) -> usize {
-    match prng.below(14) {
+    match prng.below(15) {
         0 => 0,
         1 => 1,
         2 => SHORTEST_FILE - 1,
@@ -152,6 +152,7 @@ fn any_room(prng: &mut Prng, length: usize) -> usize {
         8 => length + prng.between(2, 2000),
         9 | 10 => LONGEST_FILE,
         11 => 65_536 + prng.pick(&[0, 1, length - 1, length]),
+        12 => length - 2,
         _ => prng.below(2 * length),
     }
 }
@@ -200,7 +201,7 @@ pub fn choose_poll(prng: &mut Prng, ledger: &Ledger, style: &Style) -> Call {
 fn any_setting(prng: &mut Prng) -> Setting {
     let mut setting = good_setting(prng);
     let Setting { k, beta1, .. } = setting;
-    match prng.below(6) {
+    match prng.below(8) {
         0 => setting.k = prng.pick(&[0, 65, 256, 65535]),
         1 => setting.a = prng.pick(&[0, k / 2, k / 2 + 1, k, k + 1, 32768 + k, 65535]),
         2 => setting.beta1 = prng.pick(&[0, setting.beta2, setting.beta2 + 1, 65535]),
@@ -208,6 +209,12 @@ fn any_setting(prng: &mut Prng) -> Setting {
         4 => {
             setting.k = prng.pick(&[63, 64, 65, 66]);
             setting.a = setting.k;
+        }
+        5 | 6 => {
+            setting.edition = prng.pick(&[2, 2, 3, 255, 256, 257, 32768, 65535]);
+            if prng.chance(20) {
+                setting.a = k / 2;
+            }
         }
         _ => {
             setting.k = prng.draw() as u16;

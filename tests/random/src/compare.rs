@@ -12,6 +12,7 @@ use crate::call::{Beside, Call, Cells, Face, Indexing};
 use crate::cells::built;
 use crate::choose::{choose, choose_poll, read_contested, write_into};
 use crate::damage::Damaged;
+use crate::editions::Turn;
 use crate::events::Moment;
 use crate::file;
 use crate::grow::{any_size, grow, grow_longest, words_of, Style};
@@ -116,9 +117,13 @@ impl<'a> Contest<'a> {
         prng: &mut Prng,
         tally: &mut Tally,
     ) -> Contest<'a> {
-        let style = Style::any(prng);
+        let mut style = Style::any(prng);
         let size = any_size(prng, run);
         let is_longest = run % LONGEST_EVERY == 0;
+        if is_longest {
+            // The editions take turns.
+            style.setting.edition = (1 + run / LONGEST_EVERY) as u16 % 2;
+        }
         let mut grown = if is_longest {
             grow_longest(prng, style)
         } else {
@@ -233,6 +238,9 @@ impl<'a> Contest<'a> {
         if let (Ok(before), true) = (&verdict, Moment::is_one(call)) {
             let after = ledger_of(&self.ws);
             tally.add_events(&Moment::new(call, before, &after), self.history.is_some());
+            if let Call::Poll { name, .. } = call {
+                tally.add_turn(&Turn::new(*name, before, &after));
+            }
         }
         match (call, &mut self.history) {
             // Whatever was before, an opening starts a history.
@@ -465,6 +473,16 @@ mod tests {
     #[test]
     fn a_wrong_mark_of_both_is_found() {
         for plant in Plant::MARKS {
+            let both = Planted(Some(plant));
+            let (_, difference) = compare(&both, &both, 10_000, 1);
+            assert!(difference.is_some(), "{plant:?}");
+        }
+    }
+
+    /// Likewise rules that both take from the wrong edition.
+    #[test]
+    fn a_wrong_edition_of_both_is_found() {
+        for plant in Plant::EDITION {
             let both = Planted(Some(plant));
             let (_, difference) = compare(&both, &both, 10_000, 1);
             assert!(difference.is_some(), "{plant:?}");

@@ -15,7 +15,6 @@ use second::laws::{History, Picture};
 use second::layout::{record, STATE, WORDS};
 use second::ledger::Reading;
 use second::refusal::Refusal;
-use second::setting::Setting;
 use std::io::{ErrorKind, Read, Write};
 use std::path::PathBuf;
 use std::process::{Command as Process, Stdio};
@@ -143,10 +142,23 @@ fn walk(input: &[u8], tally: &mut Tally) -> Result<(), String> {
         let command = parse(line);
         match (&printed[..], command) {
             (BAD_LINE, _) | (_, None) => tally.add(BAD_LINE.trim_end()),
-            (text, _) if text.starts_with("refused") => tally.add(text.trim_end()),
-            (_, Some(Command::Open([k, a, beta1, beta2]))) => {
-                history.opened(&Setting { k, a, beta1, beta2 });
+            (text, command) if text.starts_with("refused") => {
+                tally.add(text.trim_end());
+                if let Some(Command::Open(setting)) = command {
+                    if setting.has_good_numbers() {
+                        tally.add(NO_EDITION);
+                    }
+                }
+            }
+            (_, Some(Command::Open(setting))) => {
+                history.opened(&setting);
                 tally.add("open taken");
+                let has_five = line.iter().filter(|&&byte| byte == b' ').count() == 5;
+                tally.add(match (setting.edition, has_five) {
+                    (1, _) => LATER,
+                    (_, true) => FIRST_TOLD,
+                    (_, false) => FIRST_LEFT_OUT,
+                });
             }
             (
                 _,
@@ -170,10 +182,13 @@ fn walk(input: &[u8], tally: &mut Tally) -> Result<(), String> {
                 result.map_err(|breach| format!("law {:?}: {}", breach.law, breach.said))?;
                 tally.add("list taken");
                 let accepted = picture.rows.iter().skip(1).filter(|row| row.is_accepted);
+                let ledger = console.ledger().expect("it was listed");
                 if accepted.count() > 0 {
                     tally.add(ACCEPTED);
+                    if ledger.setting.is_later() {
+                        tally.add(ACCEPTED_LATER);
+                    }
                 }
-                let ledger = console.ledger().expect("it was listed");
                 for (row, by_old_rule) in picture.rows.iter().zip(old_rule::accepted(ledger)) {
                     match (row.is_accepted, by_old_rule) {
                         (true, false) => tally.add(KEPT),
@@ -193,6 +208,11 @@ fn walk(input: &[u8], tally: &mut Tally) -> Result<(), String> {
 const LONGEST_TAKEN: &str = "input of the longest length";
 const NO_LINE_FEED: &str = "input without a final line feed";
 const ACCEPTED: &str = "list with accepted bookings";
+const ACCEPTED_LATER: &str = "list with accepted bookings in the later edition";
+const FIRST_LEFT_OUT: &str = "open taken with four numbers";
+const FIRST_TOLD: &str = "open taken with the first edition told";
+const LATER: &str = "open taken in the later edition";
+const NO_EDITION: &str = "open refused for its edition";
 const KEPT: &str = "row accepted for its mark alone";
 const WITHHELD: &str = "row not accepted for another's mark alone";
 const FULL: &str = "list of a full ledger";
@@ -220,6 +240,11 @@ pub fn missing(tally: &Tally) -> Vec<String> {
         LONGEST_TAKEN,
         NO_LINE_FEED,
         ACCEPTED,
+        ACCEPTED_LATER,
+        FIRST_LEFT_OUT,
+        FIRST_TOLD,
+        LATER,
+        NO_EDITION,
         KEPT,
         WITHHELD,
         FULL,
@@ -241,7 +266,8 @@ impl Program for Misread {
     }
 }
 
-/// A console with an error in how it gives, keeps or reads marks.
+/// A console with an error in how it gives, keeps or reads marks, or in what
+/// it makes of editions.
 pub struct Mismarked(pub Plant);
 
 impl Program for Mismarked {
@@ -265,7 +291,7 @@ fn print(face: &Planted, ws: &mut [u16], line: &[u8], out: &mut String) {
     };
     let is_list = command == Command::List;
     let call = match command {
-        Command::Open([k, a, beta1, beta2]) => Call::Open(Setting { k, a, beta1, beta2 }),
+        Command::Open(setting) => Call::Open(setting),
         Command::Book {
             name,
             slot,
@@ -309,7 +335,7 @@ fn list(face: &Planted, ws: &mut [u16], out: &mut String) {
 }
 
 /// The planted consoles.
-pub const MISREAD: [Misread; 5] = [
+pub const MISREAD: [Misread; 9] = [
     Misread {
         name: "CarriageReturnsAreDropped",
         read: |input| input.iter().copied().filter(|&b| b != b'\r').collect(),
@@ -336,4 +362,35 @@ pub const MISREAD: [Misread; 5] = [
         name: "PlusSignsAreTaken",
         read: |input| input.iter().copied().filter(|&b| b != b'+').collect(),
     },
+    Misread {
+        name: "EditionIsOverlooked",
+        read: |input| openings(input, 6, |pieces| pieces.truncate(5)),
+    },
+    Misread {
+        name: "SixthNumberIsOverlooked",
+        read: |input| openings(input, 7, |pieces| pieces.truncate(6)),
+    },
+    Misread {
+        name: "EditionHasToBeTold",
+        read: |input| openings(input, 5, |pieces| pieces.truncate(1)),
+    },
+    Misread {
+        name: "FourNumbersMeanTheLater",
+        read: |input| openings(input, 5, |pieces| pieces.push(b"1")),
+    },
 ];
+
+/// The input with the openings of so many pieces changed.
+fn openings(input: &[u8], count: usize, change: fn(&mut Vec<&[u8]>)) -> Vec<u8> {
+    let mut read = Vec::with_capacity(2 * input.len());
+    for line in input.split_inclusive(|&byte| byte == b'\n') {
+        let text = line.strip_suffix(b"\n").unwrap_or(line);
+        let mut pieces: Vec<&[u8]> = text.split(|&byte| byte == b' ').collect();
+        if pieces[0] == b"open" && pieces.len() == count {
+            change(&mut pieces);
+        }
+        read.extend(pieces.join(&b' '));
+        read.extend(&line[text.len()..]);
+    }
+    read
+}

@@ -47,9 +47,10 @@ pub enum Kind {
 
 impl Kind {
     /// Those that break a rule of the header, a record, a slot entry.
-    pub const HEADER: [Kind; 4] = [
+    pub const HEADER: [Kind; 5] = [
         Kind::Breaks(Broken::BookingsOutside),
         Kind::Breaks(Broken::SettingBad),
+        Kind::Breaks(Broken::EditionOutside),
         Kind::Breaks(Broken::PollsAboveBookings),
         Kind::Breaks(Broken::HeaderRestNotZero),
     ];
@@ -367,6 +368,7 @@ impl Target<'_> {
         match broken {
             Broken::BookingsOutside => self.header(N, &[0, 513, 1024, 65535]),
             Broken::SettingBad => self.setting(),
+            Broken::EditionOutside => self.header(EDITION, &[2, 2, 3, 256, 257, 65535]),
             Broken::PollsAboveBookings => {
                 let n = self.n as u16;
                 self.header(P, &[n, n + 1, 65535])
@@ -909,15 +911,19 @@ mod tests {
         }
     }
 
-    /// Whatever is done beside a setting or a last word of the header that is
-    /// wrong, 2 is answered.
+    /// Whatever is done beside a setting, an edition or a last word of the
+    /// header that is wrong, 2 is answered.
     #[test]
     fn a_damaged_header_hides_all_else() {
         let mut prng = Prng::new(7);
         for run in 0..60 {
             let ws = sound_words(&mut prng, run, run % 2 == 0);
             for kind in Kind::all() {
-                let header = prng.pick(&[Broken::SettingBad, Broken::HeaderRestNotZero]);
+                let header = prng.pick(&[
+                    Broken::SettingBad,
+                    Broken::EditionOutside,
+                    Broken::HeaderRestNotZero,
+                ]);
                 let damaged = Damaged::by(&mut prng, &ws, &[kind, Kind::Breaks(header)]);
                 assert_eq!(words::size(&damaged.words, 0), (2, 0), "{kind:?}");
             }

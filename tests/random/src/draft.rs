@@ -7,7 +7,7 @@ use second::setting::Setting;
 
 #[derive(Clone, Debug, PartialEq, Eq)]
 pub struct Draft {
-    /// Four numbers, if it is right.
+    /// Four numbers, or five with the edition, if it is right.
     pub setting: Vec<u16>,
     pub rows: Vec<Row>,
     pub polls: Vec<Poll>,
@@ -29,7 +29,17 @@ pub struct Poll {
 
 impl Draft {
     pub fn of(day: &Day) -> Draft {
-        let Setting { k, a, beta1, beta2 } = day.setting;
+        let Setting {
+            k,
+            a,
+            beta1,
+            beta2,
+            edition,
+        } = day.setting;
+        let mut setting = vec![k, a, beta1, beta2];
+        if edition > 0 {
+            setting.push(edition);
+        }
         let rows = day.bookings.iter().map(|booked| Row {
             name: booked.name,
             slot: booked.slot,
@@ -40,7 +50,7 @@ impl Draft {
             outcome: polled.is_success.into(),
         });
         Draft {
-            setting: vec![k, a, beta1, beta2],
+            setting,
             rows: rows.collect(),
             polls: polls.collect(),
         }
@@ -100,16 +110,26 @@ mod tests {
     #[test]
     fn a_draft_of_a_day_has_its_file() {
         let mut prng = Prng::new(1);
+        let mut editions = [0, 0];
         for run in 0..60 {
             let style = Style::any(&mut prng);
             let n = any_size(&mut prng, run);
-            let file = Day::of(&grow(&mut prng, style, n).ledger).file();
+            let ledger = grow(&mut prng, style, n).ledger;
+            let file = Day::of(&ledger).file();
             let draft = Draft::of_file(&file);
             assert_eq!(draft.bytes(), file);
-            let counts = [(0, 4), (10, draft.rows.len())];
-            for (at, count) in [counts[0], counts[1], (draft.polls_at(), draft.polls.len())] {
+            let counts = [
+                (0, draft.setting.len()),
+                (draft.rows_at(), draft.rows.len()),
+                (draft.polls_at(), draft.polls.len()),
+            ];
+            for (at, count) in counts {
                 assert_eq!(file[at..at + 2], (count as u16).to_be_bytes());
             }
+            let edition = ledger.setting.edition;
+            assert_eq!(draft.setting.len(), 4 + usize::from(edition));
+            editions[usize::from(edition)] += 1;
         }
+        assert!(editions[0] > 10 && editions[1] > 10, "{editions:?}");
     }
 }

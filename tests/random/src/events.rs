@@ -201,8 +201,13 @@ mod tests {
 
     impl Day {
         fn new(beta1: u16, beta2: u16) -> Day {
-            let (k, a) = (1, 1);
-            let setting = Setting { k, a, beta1, beta2 };
+            let setting = Setting {
+                k: 1,
+                a: 1,
+                beta1,
+                beta2,
+                edition: 0,
+            };
             Day {
                 ledger: Ledger::open(setting).expect("it is good"),
                 is_reached: true,

@@ -11,9 +11,13 @@ use std::collections::HashSet;
 pub enum Fault {
     /// It ends before it should.
     Short,
-    /// The first count isn't 4.
+    /// The first count is neither 4 nor 5.
     SettingCount,
     Setting,
+    /// The first edition is told.
+    EditionZero,
+    /// An edition is told that there is none of.
+    EditionAbove,
     /// There are more bookings than a ledger has room for.
     TooMany,
     /// A booking has the name of the genesis.
@@ -36,10 +40,12 @@ pub enum Fault {
 }
 
 impl Fault {
-    pub const ALL: [Fault; 15] = [
+    pub const ALL: [Fault; 17] = [
         Fault::Short,
         Fault::SettingCount,
         Fault::Setting,
+        Fault::EditionZero,
+        Fault::EditionAbove,
         Fault::TooMany,
         Fault::NameZero,
         Fault::NameTwice,
@@ -61,13 +67,21 @@ impl Fault {
 }
 
 fn judge(file: &mut Reader) -> Result<(), Fault> {
-    if number(file)? != 4 {
+    let numbers = number(file)?;
+    if numbers != 4 && numbers != 5 {
         return Err(Fault::SettingCount);
     }
     let [k, a, beta1, beta2] = [number(file)?, number(file)?, number(file)?, number(file)?];
     let is_good = k > 0 && k <= 64 && a <= k && a + a > k;
     if !is_good || beta1 == 0 || beta1 > beta2 || beta2 > 510 {
         return Err(Fault::Setting);
+    }
+    if numbers == 5 {
+        match number(file)? {
+            0 => return Err(Fault::EditionZero),
+            1 => (),
+            _ => return Err(Fault::EditionAbove),
+        }
     }
     let booked = number(file)?;
     let mut names = HashSet::new();
@@ -170,9 +184,13 @@ mod tests {
     #[test]
     fn each_fault_is_what_its_name_says() {
         type Case = (Fault, fn(&mut Draft));
-        let cases: [Case; 27] = [
-            (Fault::SettingCount, |d| d.setting.push(1)),
+        let cases: [Case; 31] = [
+            (Fault::SettingCount, |d| d.setting.extend([1, 0])),
             (Fault::SettingCount, |d| d.setting.truncate(3)),
+            (Fault::EditionZero, |d| d.setting.push(0)),
+            (Fault::EditionAbove, |d| d.setting.push(2)),
+            (Fault::EditionAbove, |d| d.setting.push(257)),
+            (Fault::Setting, |d| d.setting = vec![3, 1, 1, 2, 0]),
             (Fault::Setting, |d| d.setting[0] = 0),
             (Fault::Setting, |d| d.setting[0] = 4),
             (Fault::Setting, |d| d.setting[1] = 4),
@@ -209,13 +227,17 @@ mod tests {
             change(&mut draft);
             assert_eq!(Fault::of(&draft.bytes()), Some(fault), "{draft:?}");
         }
-        let file = draft().bytes();
-        for length in 0..file.len() {
-            assert_eq!(Fault::of(&file[..length]), Some(Fault::Short));
-        }
-        for more in 1..20 {
-            let longer = [&file[..], &vec![0; more]].concat();
-            assert_eq!(Fault::of(&longer), Some(Fault::Surplus));
+        let mut later = draft();
+        later.setting.push(1);
+        for file in [draft().bytes(), later.bytes()] {
+            assert_eq!(Fault::of(&file), None);
+            for length in 0..file.len() {
+                assert_eq!(Fault::of(&file[..length]), Some(Fault::Short));
+            }
+            for more in 1..20 {
+                let longer = [&file[..], &vec![0; more]].concat();
+                assert_eq!(Fault::of(&longer), Some(Fault::Surplus));
+            }
         }
     }
 

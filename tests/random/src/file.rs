@@ -2,7 +2,7 @@
 //! what the words do. Both faces write it; this is a third opinion, which an
 //! error of both would not pass.
 
-use second::day::SHORTEST_FILE;
+use second::day::{EDITION_BYTES, SHORTEST_FILE};
 use second::layout::*;
 use second::ledger::Ledger;
 
@@ -16,14 +16,18 @@ pub fn length(ledger: &Ledger) -> usize {
     let booking = |parents: usize| BOOKING + PARENT_NUMBER * parents;
     let bookings = ledger.bookings.iter().skip(1);
     let booked: usize = bookings.map(|b| booking(b.parents.len())).sum();
-    SHORTEST_FILE + booked + POLL * usize::from(ledger.polls)
+    let edition = EDITION_BYTES * usize::from(ledger.setting.edition);
+    SHORTEST_FILE + edition + booked + POLL * usize::from(ledger.polls)
 }
 
 /// Does the file say what the words do, and nothing else? They must be sound.
 pub fn check(file: &[u8], ws: &[u16]) -> Result<(), String> {
     let mut file = Reader { file, at: 0 };
-    file.says(2, 4u16)?;
-    for word in [K, A, BETA1, BETA2] {
+    let setting = [K, A, BETA1, BETA2, EDITION];
+    // Without the edition where it is the first.
+    let told = &setting[..4 + usize::from(ws[EDITION])];
+    file.says(2, told.len() as u16)?;
+    for &word in told {
         file.says(2, ws[word])?;
     }
     let n = usize::from(ws[N]);
@@ -133,8 +137,11 @@ mod tests {
     #[test]
     fn the_longest_file_is_grown() {
         let mut prng = Prng::new(3);
-        let style = Style::any(&mut prng);
-        let grown = grow_longest(&mut prng, style);
-        assert_eq!(length(&grown.ledger), LONGEST_FILE);
+        for (edition, longest) in [(0, 12_266), (1, LONGEST_FILE)] {
+            let mut style = Style::any(&mut prng);
+            style.setting.edition = edition;
+            let grown = grow_longest(&mut prng, style);
+            assert_eq!(length(&grown.ledger), longest);
+        }
     }
 }

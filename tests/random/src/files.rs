@@ -20,7 +20,7 @@ use crate::tally::{bad_for, Tally};
 use second::codec::decode;
 use second::day::{Day, LONGEST_FILE};
 use second::laws::{History, Picture};
-use second::layout::{BOOKINGS, N, WORDS};
+use second::layout::{BOOKINGS, EDITION, N, WORDS};
 use second::parse::parse;
 use second::sound::Damage;
 
@@ -67,6 +67,7 @@ pub fn missing(tally: &Tally) -> Vec<String> {
     let kinds = Kind::ALL.map(|kind| format!("{BAD}{}", label(Some(kind))));
     // Those that leave nearly every file good.
     let harmless = [
+        Kind::EditionTurned,
         Kind::NameOther,
         Kind::BookingMore,
         Kind::PollDropped,
@@ -75,12 +76,22 @@ pub fn missing(tally: &Tally) -> Vec<String> {
     .map(|kind| label(Some(kind)));
     let kinds =
         (kinds.into_iter()).filter(|kind| !harmless.iter().any(|label| kind.ends_with(label)));
-    let good = [None, Some(Kind::ByteChanged), Some(Kind::PollsSwapped)];
+    let good = [
+        None,
+        Some(Kind::ByteChanged),
+        Some(Kind::EditionTurned),
+        Some(Kind::PollsSwapped),
+    ];
     let good = good.map(|kind| format!("{GOOD}{}", label(kind)));
     let faults = Fault::ALL.into_iter().map(bad_for);
     let others = [
         FULL,
         MARKED,
+        MARKED_LATER,
+        FIRST,
+        LATER,
+        LATER_INTO_FIRST,
+        FIRST_INTO_LATER,
         INTO_LAST,
         INTO_ZEROS,
         INTO_ANY,
@@ -103,6 +114,11 @@ const GOOD: &str = "good: ";
 const BAD: &str = "bad: ";
 const FULL: &str = "a good file of 512 bookings";
 const MARKED: &str = "a good file that leads to acceptance";
+const MARKED_LATER: &str = "a good file that leads to acceptance in the later edition";
+const FIRST: &str = "a good file of the first edition";
+const LATER: &str = "a good file of the later edition";
+const LATER_INTO_FIRST: &str = "a good file of the later edition into a ledger of the first";
+const FIRST_INTO_LATER: &str = "a good file of the first edition into a ledger of the later";
 const INTO_LAST: &str = "into the ledger read last";
 const INTO_ZEROS: &str = "into zeros";
 const INTO_ANY: &str = "into any words";
@@ -193,6 +209,7 @@ impl Contest<'_> {
             self.tally.add(bad_for(fault));
         }
         if made.our_answer.0 == 0 {
+            self.count_editions(&before, &made.words);
             *self.words = made.words;
             self.check_laws(&file)?;
             if prng.chance(10) {
@@ -200,6 +217,20 @@ impl Contest<'_> {
             }
         }
         Ok(())
+    }
+
+    /// Of which edition the file was, and of which the words that it was read
+    /// into.
+    fn count_editions(&mut self, before: &[u16], after: &[u16]) {
+        self.tally.add([FIRST, LATER][usize::from(after[EDITION])]);
+        if before[N] == 0 {
+            return;
+        }
+        match (before[EDITION], after[EDITION]) {
+            (0, 1) => self.tally.add(LATER_INTO_FIRST),
+            (1, 0) => self.tally.add(FIRST_INTO_LATER),
+            _ => (),
+        }
     }
 
     /// The ledger shows what the file's polls ask for.
@@ -215,6 +246,9 @@ impl Contest<'_> {
         let picture = Picture::of_marks(self.words);
         if picture.rows.iter().skip(1).any(|row| row.is_accepted) {
             self.tally.add(MARKED);
+            if self.words[EDITION] == 1 {
+                self.tally.add(MARKED_LATER);
+            }
         }
         let kept = history.check(&picture);
         kept.map_err(|breach| format!("law {:?}: {}", breach.law, breach.said))

@@ -94,7 +94,14 @@ impl Flaw {
                     "book -9 7 0",
                     "book 9 7 -0",
                 ];
-                let more = ["open 3 -2 1 2", "poll -9 1", "-list", "-size 1"];
+                let more = [
+                    "open 3 -2 1 2",
+                    "open 3 2 1 2 -1",
+                    "open 3 2 1 2 -0",
+                    "poll -9 1",
+                    "-list",
+                    "-size 1",
+                ];
                 line = Line::of(prng.pick(&[&lines[..], &more[..]].concat()));
             }
             Flaw::TwentyOneDigits => {
@@ -129,11 +136,12 @@ impl Flaw {
                     "18446744073709551615",
                     "18446744073709551623",
                 ]);
-                line = Line::of(&match prng.below(5) {
+                line = Line::of(&match prng.below(6) {
                     0 => format!("open {small} 2 1 2"),
                     1 => format!("open 3 {small} 1 2"),
                     2 => format!("open 3 2 {small} 2"),
                     3 => format!("open 3 2 1 {small}"),
+                    4 => format!("open 3 2 1 2 {small}"),
                     _ => format!("book 9 {small} 0"),
                 });
             }
@@ -160,7 +168,9 @@ impl Flaw {
             }
             Flaw::NumberSurplus => {
                 let lines = [
-                    "open 3 2 1 2 1",
+                    "open 3 2 1 2 1 0",
+                    "open 3 2 1 2 0 1",
+                    "open 3 2 1 2 1 1 1",
                     "list 0",
                     "size 0 0",
                     "query 0 1",
@@ -224,7 +234,7 @@ impl Line {
     fn any(prng: &mut Prng, name: u64) -> Line {
         let reading = prng.pick(&["query", "accepted", "lead", "confidence", "size"]);
         Line::of(&match prng.below(4) {
-            0 => "open 3 2 1 2".to_string(),
+            0 => prng.pick(&["open 3 2 1 2", "open 3 2 1 2 1"]).to_string(),
             1 => format!("book {} 7 {name}", name.wrapping_add(1)),
             2 => format!("poll {name} 1 0 -1"),
             _ => format!("{reading} {name}"),

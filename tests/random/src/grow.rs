@@ -65,6 +65,7 @@ impl Style {
         match prng.below(100) {
             0..20 => return Style::accepting(prng),
             20..45 => return Style::contested(prng),
+            45..55 => return Style::failing(prng),
             _ => (),
         }
         Style {
@@ -82,7 +83,7 @@ impl Style {
         let beta1 = prng.word(1, 2);
         let beta2 = beta1 + prng.word(0, 2);
         Style {
-            setting: setting(1, 1, beta1, beta2),
+            setting: setting(prng, 1, 1, beta1, beta2),
             shape: prng.pick(&[Shape::Chain, Shape::Chain, Shape::Diamonds, Shape::Any]),
             names: prng.pick(&Names::ALL),
             slots: prng.pick(&[30, 255]),
@@ -101,11 +102,28 @@ impl Style {
             prng.word(200, 510)
         };
         Style {
-            setting: setting(1, 1, beta1, beta2),
+            setting: setting(prng, 1, 1, beta1, beta2),
             shape: Shape::Chain,
             names: prng.pick(&Names::ALL),
             slots: prng.pick(&[5, 30, 255]),
             success: 95,
+            late_rivals: prng.pick(&[0, 5, 20]),
+        }
+    }
+
+    /// The later edition, and chains where polls fail between chits: their
+    /// number is soon enough for a bound, and seldom without a break.
+    pub fn failing(prng: &mut Prng) -> Style {
+        let beta1 = prng.word(2, 5);
+        let beta2 = beta1 + prng.word(0, 2);
+        let mut setting = setting(prng, 1, 1, beta1, beta2);
+        setting.edition = Setting::LATER;
+        Style {
+            setting,
+            shape: prng.pick(&[Shape::Chain, Shape::Chain, Shape::Diamonds]),
+            names: prng.pick(&Names::ALL),
+            slots: prng.pick(&[3, 8, 30, 255]),
+            success: prng.pick(&[50, 60, 70]),
             late_rivals: prng.pick(&[0, 5, 20]),
         }
     }
@@ -139,15 +157,17 @@ impl Style {
     }
 }
 
-/// A good setting: mostly small, so that counters pass the bounds.
+/// A good setting of either edition: mostly small, so that counters pass the
+/// bounds.
 pub fn good_setting(prng: &mut Prng) -> Setting {
     if prng.chance(10) {
-        return prng.pick(&[
-            Setting::PAPER,
-            setting(64, 64, 510, 510),
-            setting(64, 33, 1, 510),
-            setting(63, 32, 1, 1),
+        let [k, a, beta1, beta2] = prng.pick(&[
+            [10, 8, 11, 150],
+            [64, 64, 510, 510],
+            [64, 33, 1, 510],
+            [63, 32, 1, 1],
         ]);
+        return setting(prng, k, a, beta1, beta2);
     }
     let most_votes = prng.weigh(&[(6, 5), (1, Setting::MOST_VOTES)]);
     let k = prng.word(1, most_votes);
@@ -156,11 +176,18 @@ pub fn good_setting(prng: &mut Prng) -> Setting {
     let beta1 = prng.word(1, most_beta1);
     let most_more = prng.weigh(&[(4, 0), (4, 1), (1, 20)]);
     let beta2 = beta1 + prng.word(0, most_more);
-    setting(k, a, beta1, beta2)
+    setting(prng, k, a, beta1, beta2)
 }
 
-fn setting(k: u16, a: u16, beta1: u16, beta2: u16) -> Setting {
-    Setting { k, a, beta1, beta2 }
+/// A setting with these numbers, of either edition.
+pub fn setting(prng: &mut Prng, k: u16, a: u16, beta1: u16, beta2: u16) -> Setting {
+    Setting {
+        k,
+        a,
+        beta1,
+        beta2,
+        edition: prng.word(0, 1),
+    }
 }
 
 /// A ledger, how it grew, and what a history of its calls knows.
@@ -265,8 +292,8 @@ pub fn grow(prng: &mut Prng, style: Style, n: usize) -> Grown {
     grown
 }
 
-/// Grows a ledger with the longest day file: full, with as many parents as
-/// there can be, and all of it polled.
+/// Grows a ledger with the longest day file of its edition: full, with as many
+/// parents as there can be, and all of it polled.
 pub fn grow_longest(prng: &mut Prng, style: Style) -> Grown {
     let style = Style {
         shape: Shape::Most,
@@ -316,9 +343,14 @@ fn build_on(prng: &mut Prng, grown: &mut Grown, rival: u64, accepted: usize, n: 
     let slot = ledger.bookings[accepted].slot;
     let [behind, ahead] = [ledger.numbers[&rival], accepted].map(|b| &ledger.bookings[b]);
     // More chits than the other has, and so many that the counter, which is 0
-    // with the first of them, is above β2.
+    // with the first of them, is above β2; in the later edition, which is 1
+    // with the first, at β2.
     let lead = ahead.confidence.saturating_sub(behind.confidence) + 1;
-    let needed = usize::from(lead.max(ledger.setting.beta2 + 2));
+    let counted = match ledger.setting.is_later() {
+        true => ledger.setting.beta2,
+        false => ledger.setting.beta2 + 2,
+    };
+    let needed = usize::from(lead.max(counted));
     let chits = match prng.below(4) {
         0 => prng.below(4),
         1 => needed - 1,
@@ -343,7 +375,8 @@ fn build_on(prng: &mut Prng, grown: &mut Grown, rival: u64, accepted: usize, n: 
 /// that stand on the parent: the last of them brings a mark to the child, which
 /// it does not stand on. Where bounds or room are too small, any booking.
 fn add_waiting_child(prng: &mut Prng, grown: &mut Grown, n: usize) {
-    let Setting { beta1, beta2, .. } = grown.style.setting;
+    let setting = grown.style.setting;
+    let Setting { beta1, beta2, .. } = setting;
     let ledger = &grown.ledger;
     let free = (1..=255).filter(|slot| !ledger.slots.contains_key(slot));
     let free = prng.sample(&free.collect::<Vec<u16>>(), 2);
@@ -353,7 +386,8 @@ fn add_waiting_child(prng: &mut Prng, grown: &mut Grown, n: usize) {
         return add_booking(prng, grown);
     };
     let mut rivals = [(); 2].map(|()| book(prng, grown, slot, vec![0]));
-    // The second becomes last by its first chit, which counts for nothing.
+    // The second becomes last by its first chit, which counts for nothing in
+    // the first edition.
     let is_second = prng.chance(50);
     if is_second {
         rivals.swap(0, 1);
@@ -361,8 +395,13 @@ fn add_waiting_child(prng: &mut Prng, grown: &mut Grown, n: usize) {
     let [parent, rival] = rivals;
     let child = book(prng, grown, own, vec![parent]);
     let mut polls = vec![child];
-    for chits in 1..=beta2 + u16::from(is_second) {
-        let stands_on = if chits <= beta1 { child } else { parent };
+    // Chits beside the child's own: on it, and on both it and its parent.
+    let (on_child, on_both) = match setting.is_later() {
+        true => (beta1 - 1, beta2 - 1),
+        false => (beta1, beta2 + u16::from(is_second)),
+    };
+    for chits in 1..=on_both {
+        let stands_on = if chits <= on_child { child } else { parent };
         let other = 1 + (slot + prng.word(0, 253)) % 255;
         polls.push(book(prng, grown, other, vec![stands_on]));
     }

@@ -15,7 +15,7 @@
 //! - `draft`: a file as anybody may write one down
 //! - `spoil`: good files spoiled
 //! - `fault`: why a file is bad
-//! - `replayed`: the marks that reading one has to make
+//! - `replayed`: the marks and counters that reading one has to make
 //!
 //! Indexes of names:
 //! - `cells`: indexes of all kinds
@@ -31,10 +31,12 @@
 //! - `tally`: what the runs have reached
 //! - `written`: the same of day files
 //! - `events`: the same of marks
+//! - `editions`: the same of editions
 //! - `station`: the product through its C face
 //! - `relay`: the same in a program beside this one
 //! - `planted`: a copy of the rules with errors to be found
 //! - `mismarked`: the errors in how it gives marks
+//! - `miscounted`: the errors in what it makes of editions
 //! - `misjudged`: the errors in what it says of damage
 //! - `miswritten`: the errors in the day files that it writes
 //! - `misread`: the errors in how it reads them
@@ -54,6 +56,7 @@ pub mod compare;
 pub mod consoles;
 pub mod damage;
 pub mod draft;
+pub mod editions;
 pub mod events;
 pub mod fault;
 pub mod file;
@@ -62,6 +65,7 @@ pub mod flaw;
 pub mod grow;
 pub mod guard;
 pub mod made;
+pub mod miscounted;
 pub mod misindexed;
 pub mod misjudged;
 pub mod mismarked;

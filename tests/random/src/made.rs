@@ -9,7 +9,8 @@ use crate::probed;
 use crate::replayed;
 use crate::report::{bytes_text, cells_text, words_text};
 use second::codec::decode;
-use second::layout::{record, MARK, WORDS};
+use second::counting;
+use second::layout::{entry, record, COUNTER, EDITION, MARK, REST, WORDS};
 use second::ledger::{Ledger, Reading};
 use second::marking::{check_booking, check_opening, check_poll, is_marked};
 use second::sound::Damage;
@@ -114,6 +115,7 @@ impl Made {
             "a taken call left unsound words",
         )?;
         self.check_marks(before, call, verdict)?;
+        self.check_counters(before, call, verdict)?;
         match call {
             Call::WriteFirst(_) => self.check_written(lent, before, verdict),
             Call::ReadFirst(file) => self.check_read(file, before),
@@ -144,6 +146,29 @@ impl Made {
                     true => Ok(()),
                     false => Err("another acceptance than the mark says".to_string()),
                 };
+            }
+            _ => Ok(()),
+        };
+        kept.map_err(|breach| format!("law {:?}: {}", breach.law, breach.said))
+    }
+
+    /// The same of counters, and of the edition.
+    fn check_counters(&self, before: &[u16], call: &Call, verdict: &Verdict) -> Result<(), String> {
+        if self.our_answer.0 != 0 {
+            return Ok(());
+        }
+        let after = &self.words;
+        let kept = match (call, verdict) {
+            (Call::Open(setting), _) => {
+                let header = [after[EDITION], after[REST]];
+                return match header == [setting.edition, 0] {
+                    true => Ok(()),
+                    false => Err(format!("the opening leaves {header:?} in the header")),
+                };
+            }
+            (Call::Book { .. }, Ok(_)) => counting::check_booking(before, after),
+            (Call::Poll { name, .. }, Ok(ledger)) => {
+                counting::check_poll(before, after, ledger.numbers[name])
             }
             _ => Ok(()),
         };
@@ -198,10 +223,15 @@ impl Made {
         }
         if meant.0 == 0 {
             file::check(file, &self.words)?;
-            let marks = replayed::marks(&self.words).into_iter().enumerate();
-            for (b, is_marked) in marks {
+            let outcome = replayed::outcome(&self.words);
+            for (b, is_marked) in outcome.marks.into_iter().enumerate() {
                 if self.words[record(b) + MARK] != u16::from(is_marked) {
                     return Err(format!("the file's polls lead to another mark of {b}"));
+                }
+            }
+            for (s, counter) in outcome.counters.into_iter().enumerate() {
+                if self.words[entry(s) + COUNTER] != counter {
+                    return Err(format!("the file's polls lead slot {s} to {counter}"));
                 }
             }
         }

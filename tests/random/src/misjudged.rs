@@ -56,6 +56,9 @@ fn misjudge(plant: Option<Plant>, ws: &[u16]) -> Damage {
         let breach = |b| (Place::Record(b), Broken::ConfidenceAboveChits);
         damage.0.extend(above.map(breach));
     }
+    if plant == Some(Plant::LaterEditionRefused) && ws[EDITION] == 1 {
+        damage.0.insert((Place::Header, Broken::HeaderRestNotZero));
+    }
     damage
 }
 
@@ -74,6 +77,15 @@ fn charged(plant: Option<Plant>, ws: &[u16], place: Place, broken: Broken) -> Op
     };
     match (plant, broken, place) {
         (Plant::CounterBoundUntested, Broken::CounterAboveChits, _) => None,
+        (Plant::EditionUntested, Broken::EditionOutside, _) => None,
+        (Plant::EditionTwoUntested, Broken::EditionOutside, _) => {
+            (ws[EDITION] != 2).then_some(place)
+        }
+        (Plant::EditionAmongRecords, Broken::EditionOutside, _) => Some(Place::Record(0)),
+        (Plant::LastHeaderWordUntested, Broken::HeaderRestNotZero, _) => None,
+        (Plant::LastHeaderWordIsEdition, Broken::HeaderRestNotZero, _) => {
+            (ws[REST] != 1).then_some(place)
+        }
         (Plant::MissingOrdinalUntested, Broken::OrdinalMissing, _) => None,
         (Plant::MissingOrdinalOfFullUntested, Broken::OrdinalMissing, Place::Record(BOOKINGS)) => {
             None

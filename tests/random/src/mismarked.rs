@@ -1,6 +1,7 @@
 //! The marks with errors planted, for `planted`. Each gives most of them as
 //! they are.
 
+use crate::miscounted::{is_enough, Bound};
 use crate::old_rule;
 use crate::planted::Plant;
 use second::ledger::{Ledger, GENESIS};
@@ -62,8 +63,9 @@ fn mark(plant: Option<Plant>, ledger: &mut Ledger, ancestry: &BTreeSet<usize>) {
         let slot = ledger.slot_of(b);
         let setting = ledger.setting;
         let is_own = slot.preferred == b && slot.last == b || has(Plant::AcceptedForBothRivals);
-        let by_beta2 = slot.counter > setting.beta2 && is_own;
-        let by_beta1 = slot.counter > setting.beta1 && slot.bookings.len() == 1;
+        let is_enough = |bound| is_enough(plant, &setting, bound, slot.counter);
+        let by_beta2 = is_enough(Bound::Beta2) && is_own;
+        let by_beta1 = is_enough(Bound::Beta1) && slot.bookings.len() == 1;
         let mut parents = ledger.bookings[b].parents.iter();
         let is_earned = by_beta2 || by_beta1 && parents.all(is_accepted);
         if !is_earned {

@@ -36,18 +36,13 @@ impl Reader<'_> {
     }
 
     fn ledger(&mut self) -> Result<Ledger, Refusal> {
-        let count = self.number()?;
-        if count != 4 && !self.has(Plant::SettingCountUnread) {
-            return Err(Refusal::File);
-        }
-        let [k, a, beta1, beta2] = [(); 4].map(|()| self.number());
-        let setting = Setting {
-            k: k?,
-            a: a?,
-            beta1: beta1?,
-            beta2: beta2?,
-        };
+        let setting = self.setting()?;
         let mut ledger = Ledger::open(setting).map_err(|_| Refusal::File)?;
+        match self.plant {
+            Some(Plant::FileTakenByFirstEdition) => ledger.setting.edition = 0,
+            Some(Plant::FileTakenByLaterEdition) => ledger.setting.edition = Setting::LATER,
+            _ => (),
+        }
         let booked = self.number()?;
         if booked == 511 && self.has(Plant::FullFileRefused) {
             return Err(Refusal::File);
@@ -56,7 +51,48 @@ impl Reader<'_> {
             self.booking(&mut ledger)?;
         }
         self.polls(&mut ledger)?;
+        ledger.setting = setting;
         Ok(ledger)
+    }
+
+    fn setting(&mut self) -> Result<Setting, Refusal> {
+        let count = self.number()?;
+        let is_count = match count {
+            4 => true,
+            5 => !self.has(Plant::FiveNumbersRefused),
+            _ => self.has(Plant::SettingCountUnread),
+        };
+        if !is_count {
+            return Err(Refusal::File);
+        }
+        let [k, a, beta1, beta2] = [(); 4].map(|()| self.number());
+        let edition = match count {
+            5 => self.edition()?,
+            _ => 0,
+        };
+        Ok(Setting {
+            k: k?,
+            a: a?,
+            beta1: beta1?,
+            beta2: beta2?,
+            edition,
+        })
+    }
+
+    /// An edition that is told.
+    fn edition(&mut self) -> Result<u16, Refusal> {
+        let told = self.number()?;
+        let read = match self.plant {
+            Some(Plant::EditionReadByItsLowByte) => told % 256,
+            Some(Plant::EditionAboveOneRead) => told.min(Setting::LATER),
+            _ => told,
+        };
+        match read {
+            0 if self.has(Plant::EditionZeroRead) => Ok(0),
+            Setting::LATER if self.has(Plant::EditionReadAndLost) => Ok(0),
+            Setting::LATER => Ok(Setting::LATER),
+            _ => Err(Refusal::File),
+        }
     }
 
     fn booking(&mut self, ledger: &mut Ledger) -> Result<(), Refusal> {

@@ -2,8 +2,10 @@
 //! file as it is.
 
 use crate::planted::Plant;
+use second::day::EDITION_BYTES;
 use second::ledger::{Booking, Ledger, State};
 use second::refusal::Refusal;
+use second::setting::Setting;
 
 /// Writes the file of a ledger to the front of the buffer; gives its length.
 pub fn write(plant: Option<Plant>, ledger: &Ledger, out: &mut [u8]) -> Result<usize, Refusal> {
@@ -23,6 +25,9 @@ pub fn write(plant: Option<Plant>, ledger: &Ledger, out: &mut [u8]) -> Result<us
     }
     if has(Plant::LastByteCutOff) && room + 1 == length {
         length = room;
+    }
+    if has(Plant::EditionUnmeasured) && ledger.setting.is_later() && room < length {
+        length = room.max(length - EDITION_BYTES);
     }
     if room < length {
         if has(Plant::ShortBufferBegun) {
@@ -56,8 +61,28 @@ impl Writer {
     }
 
     fn ledger(&mut self, ledger: &Ledger) {
-        let setting = ledger.setting;
-        for n in [4, setting.k, setting.a, setting.beta1, setting.beta2] {
+        let Setting {
+            k,
+            a,
+            beta1,
+            beta2,
+            edition,
+        } = ledger.setting;
+        let mut setting = vec![k, a, beta1, beta2];
+        let is_told = match edition {
+            0 => self.has(Plant::EditionAlwaysWritten),
+            _ => !self.has(Plant::EditionNotWritten),
+        };
+        if is_told && self.has(Plant::EditionWrittenFirst) {
+            setting.insert(0, edition);
+        } else if is_told {
+            setting.push(edition);
+        }
+        self.number(match self.plant {
+            Some(Plant::EditionUncounted) => 4,
+            _ => setting.len(),
+        });
+        for n in setting {
             self.number(n.into());
         }
         let first = usize::from(!self.has(Plant::GenesisWritten));

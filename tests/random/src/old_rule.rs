@@ -9,9 +9,10 @@ pub fn accepted(ledger: &Ledger) -> Vec<bool> {
     let mut accepted = vec![true];
     for (b, booking) in ledger.bookings.iter().enumerate().skip(1) {
         let slot = ledger.slot_of(b);
-        let by_beta2 = slot.preferred == b && slot.last == b && slot.counter > ledger.setting.beta2;
+        let is_enough = |beta| ledger.setting.is_enough(slot.counter, beta);
+        let by_beta2 = slot.preferred == b && slot.last == b && is_enough(ledger.setting.beta2);
         let by_beta1 = slot.bookings.len() == 1
-            && slot.counter > ledger.setting.beta1
+            && is_enough(ledger.setting.beta1)
             && booking.parents.iter().all(|&parent| accepted[parent]);
         accepted.push(by_beta1 || by_beta2);
     }
@@ -26,8 +27,13 @@ mod tests {
     /// P10, then a rival, then chits for the rival.
     #[test]
     fn a_rival_drops_it_and_takes_it() {
-        let (k, a, beta1, beta2) = (1, 1, 1, 2);
-        let setting = Setting { k, a, beta1, beta2 };
+        let setting = Setting {
+            k: 1,
+            a: 1,
+            beta1: 1,
+            beta2: 2,
+            edition: 0,
+        };
         let mut ledger = Ledger::open(setting).expect("it is good");
         let book = |ledger: &mut Ledger, name, slot, parent| {
             ledger.book(name, slot, &[parent]).expect("it is taken")

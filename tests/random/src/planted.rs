@@ -2,6 +2,7 @@
 //! the comparison finds them. Without a plant it must find nothing.
 
 use crate::call::{Beside, Call, Face, Indexing};
+use crate::miscounted;
 use crate::misindexed;
 use crate::misjudged;
 use crate::mismarked;
@@ -48,8 +49,45 @@ pub enum Plant {
     MarksMadeAnew,
     FailedPollMarksNobody,
     AcceptedByOldRule,
+    // editions
+    NewLastUncountedInLater,
+    CounterGoesOnInLater,
+    CounterKeptInLater,
+    AboveBeta1InLater,
+    AboveBeta2InLater,
+    AtLeastBeta1InFirst,
+    AtLeastBeta2InFirst,
+    FailureClearsInFirst,
+    FailureClearsNothing,
+    FailureLeavesSlot0,
+    FailureLeavesOwnSlot,
+    FailureClearsOwnSlotOnly,
+    FailureClearsUpToParents,
+    FailureClearsWhereLast,
+    FailureClearsWherePreferred,
+    FailureClearsLoneBookings,
+    FailureClearsAllSlots,
+    FailureLowersByOne,
+    FailureClearsToOne,
+    FailureMovesLast,
+    FailureUnmarks,
+    FailureLowersConfidence,
+    MarksBeforeClearing,
+    EditionAboveOneOpened,
+    EditionAboveOneIsFirst,
+    EditionInLowBits,
+    EditionByItsLowestBit,
+    EditionLostAtOpening,
+    OpeningKeepsEdition,
+    PollForgetsEdition,
     // what is damaged, and what is said of it
     CounterBoundUntested,
+    EditionUntested,
+    EditionTwoUntested,
+    EditionAmongRecords,
+    LaterEditionRefused,
+    LastHeaderWordUntested,
+    LastHeaderWordIsEdition,
     MissingOrdinalUntested,
     MissingOrdinalOfFullUntested,
     MissingOrdinalAtLastRecord,
@@ -78,6 +116,11 @@ pub enum Plant {
     RefusedCallMendsCounters,
     // the day file
     LowByteFirst,
+    EditionNotWritten,
+    EditionAlwaysWritten,
+    EditionUncounted,
+    EditionWrittenFirst,
+    EditionUnmeasured,
     HighByteLost,
     NameLowByteFirst,
     NameHalvesSwapped,
@@ -104,6 +147,14 @@ pub enum Plant {
     MissingBytesAreZero,
     FileLengthInSixteenBits,
     SettingCountUnread,
+    FiveNumbersRefused,
+    EditionZeroRead,
+    EditionAboveOneRead,
+    EditionReadByItsLowByte,
+    EditionReadAndLost,
+    FileTakenByFirstEdition,
+    FileTakenByLaterEdition,
+    ReadingKeepsEdition,
     FullFileRefused,
     NameInLowHalf,
     NameTwiceSkipped,
@@ -191,8 +242,46 @@ impl Plant {
         Plant::FailedPollMarksNobody,
         Plant::AcceptedByOldRule,
     ];
-    const DAMAGE: [Plant; 27] = [
+    pub const EDITION: [Plant; 30] = [
+        Plant::NewLastUncountedInLater,
+        Plant::CounterGoesOnInLater,
+        Plant::CounterKeptInLater,
+        Plant::AboveBeta1InLater,
+        Plant::AboveBeta2InLater,
+        Plant::AtLeastBeta1InFirst,
+        Plant::AtLeastBeta2InFirst,
+        Plant::FailureClearsInFirst,
+        Plant::FailureClearsNothing,
+        Plant::FailureLeavesSlot0,
+        Plant::FailureLeavesOwnSlot,
+        Plant::FailureClearsOwnSlotOnly,
+        Plant::FailureClearsUpToParents,
+        Plant::FailureClearsWhereLast,
+        Plant::FailureClearsWherePreferred,
+        Plant::FailureClearsLoneBookings,
+        Plant::FailureClearsAllSlots,
+        Plant::FailureLowersByOne,
+        Plant::FailureClearsToOne,
+        Plant::FailureMovesLast,
+        Plant::FailureUnmarks,
+        Plant::FailureLowersConfidence,
+        Plant::MarksBeforeClearing,
+        Plant::EditionAboveOneOpened,
+        Plant::EditionAboveOneIsFirst,
+        Plant::EditionInLowBits,
+        Plant::EditionByItsLowestBit,
+        Plant::EditionLostAtOpening,
+        Plant::OpeningKeepsEdition,
+        Plant::PollForgetsEdition,
+    ];
+    const DAMAGE: [Plant; 33] = [
         Plant::CounterBoundUntested,
+        Plant::EditionUntested,
+        Plant::EditionTwoUntested,
+        Plant::EditionAmongRecords,
+        Plant::LaterEditionRefused,
+        Plant::LastHeaderWordUntested,
+        Plant::LastHeaderWordIsEdition,
         Plant::MissingOrdinalUntested,
         Plant::MissingOrdinalOfFullUntested,
         Plant::MissingOrdinalAtLastRecord,
@@ -220,8 +309,13 @@ impl Plant {
         Plant::UnknownNameBeforeDamage,
         Plant::RefusedCallMendsCounters,
     ];
-    pub const FILE: [Plant; 18] = [
+    pub const FILE: [Plant; 23] = [
         Plant::LowByteFirst,
+        Plant::EditionNotWritten,
+        Plant::EditionAlwaysWritten,
+        Plant::EditionUncounted,
+        Plant::EditionWrittenFirst,
+        Plant::EditionUnmeasured,
         Plant::HighByteLost,
         Plant::NameLowByteFirst,
         Plant::NameHalvesSwapped,
@@ -246,11 +340,19 @@ impl Plant {
         Plant::LengthKeptInHeader,
     ];
 
-    pub const READING: [Plant; 26] = [
+    pub const READING: [Plant; 34] = [
         Plant::TrailingBytesTaken,
         Plant::MissingBytesAreZero,
         Plant::FileLengthInSixteenBits,
         Plant::SettingCountUnread,
+        Plant::FiveNumbersRefused,
+        Plant::EditionZeroRead,
+        Plant::EditionAboveOneRead,
+        Plant::EditionReadByItsLowByte,
+        Plant::EditionReadAndLost,
+        Plant::FileTakenByFirstEdition,
+        Plant::FileTakenByLaterEdition,
+        Plant::ReadingKeepsEdition,
         Plant::FullFileRefused,
         Plant::NameInLowHalf,
         Plant::NameTwiceSkipped,
@@ -308,16 +410,31 @@ impl Plant {
         Plant::IndexKeptInHeader,
     ];
 
-    /// Those of marks that a history can show: there a failed poll finds nobody
-    /// to mark, and a booking neither.
+    /// Those of marks and editions that a console can show: in a history a failed
+    /// poll finds nobody to mark, and a booking neither. Nobody is accepted by the
+    /// counter of slot 0. And who is last where the counter is 0 tells nothing in
+    /// the later edition: the next chit makes it 1, whoever has it. Some more are
+    /// left to the calls, as one input of a hundred or less shows them.
     pub fn shown() -> impl Iterator<Item = Plant> {
-        let hidden = [Plant::MarksAfterBookingToo, Plant::FailedPollMarksNobody];
-        (Plant::MARKS.into_iter()).filter(move |plant| !hidden.contains(plant))
+        let hidden = [
+            Plant::MarksAfterBookingToo,
+            Plant::FailedPollMarksNobody,
+            Plant::MarksBeforeClearing,
+            Plant::FailureLeavesSlot0,
+            Plant::FailureMovesLast,
+            Plant::CounterKeptInLater,
+            Plant::FailureLeavesOwnSlot,
+            Plant::FailureClearsWhereLast,
+            Plant::FailureClearsWherePreferred,
+        ];
+        (Plant::MARKS.into_iter().chain(Plant::EDITION))
+            .filter(move |plant| !hidden.contains(plant))
     }
 
     pub fn all() -> impl Iterator<Item = Plant> {
         (Plant::VOTE.into_iter())
             .chain(Plant::MARKS)
+            .chain(Plant::EDITION)
             .chain(Plant::DAMAGE)
             .chain(Plant::FILE)
             .chain(Plant::WRITING)
@@ -367,7 +484,8 @@ impl Planted {
         }
         let ws = &mut ws[..WORDS];
         if let Call::Open(setting) = call {
-            let mut ledger = Ledger::open(*setting)?;
+            let setting = miscounted::opened(self.0, *setting, ws[EDITION]);
+            let mut ledger = Ledger::open(setting)?;
             mismarked::open(self.0, &mut ledger);
             encode(&ledger, ws);
             return Ok(0);
@@ -400,6 +518,9 @@ impl Planted {
             }
             Call::Poll { name, votes } => {
                 let result = self.poll(&mut ledger, *name, votes);
+                if self.has(Plant::PollForgetsEdition) {
+                    ledger.setting.edition = 0;
+                }
                 if result.is_ok() || self.has(Plant::RefusedPollMovesP) {
                     encode(&ledger, ws);
                 }
@@ -438,13 +559,23 @@ impl Planted {
             let [k, a, beta1, beta2] = numbers[..] else {
                 unreachable!("eight bytes are four numbers");
             };
-            if let Ok(opened) = Ledger::open(Setting { k, a, beta1, beta2 }) {
+            let setting = Setting {
+                k,
+                a,
+                beta1,
+                beta2,
+                edition: 0,
+            };
+            if let Ok(opened) = Ledger::open(setting) {
                 encode(&opened, ws);
             }
         }
         let ledger = misread::read(self.0, file)?;
         let before = ws.to_vec();
         encode(&ledger, ws);
+        if self.has(Plant::ReadingKeepsEdition) && before[EDITION] <= Setting::LATER {
+            ws[EDITION] = before[EDITION];
+        }
         if self.has(Plant::OldRecordsKept) {
             let unused = record(ledger.bookings.len())..ENTRIES_START;
             ws[unused.clone()].copy_from_slice(&before[unused]);
@@ -545,13 +676,17 @@ impl Planted {
         } else {
             State::Polled
         };
-        if self.has(Plant::MarksBeforePoll) {
+        let marks_before =
+            self.has(Plant::MarksBeforePoll) || self.has(Plant::MarksBeforeClearing) && !is_success;
+        if marks_before {
             mismarked::poll(self.0, ledger, b, is_success);
         }
         if is_success {
             self.succeed(ledger, b);
+        } else {
+            miscounted::fail(self.0, ledger, b);
         }
-        if !self.has(Plant::MarksBeforePoll) {
+        if !marks_before {
             mismarked::poll(self.0, ledger, b, is_success);
         }
         Ok(())
@@ -613,7 +748,7 @@ impl Planted {
                 slot.counter += 1;
             } else {
                 slot.last = m;
-                slot.counter = u16::from(self.has(Plant::CounterRisesAlsoForNewLast));
+                slot.counter = miscounted::restart(self.0, &ledger.setting, slot.counter);
             }
         }
     }

@@ -10,6 +10,9 @@ use std::process::{Child, ChildStdin, ChildStdout, Command, Stdio};
 /// Told of a call that wrote beside what it was lent. No call gives it.
 pub const WROTE_OUTSIDE: u32 = u32::MAX;
 
+/// How many numbers a request has room for.
+const NUMBERS: usize = 8;
+
 /// A running `relay.c`.
 pub struct Relay {
     child: Child,
@@ -77,21 +80,25 @@ fn read_words(from: &mut impl Read, words: &mut [u16]) -> io::Result<()> {
 /// bytes and the cells that it lends.
 fn request(ws: &[u16], beside: &Beside, call: &Call) -> Vec<u8> {
     let kind = Call::KINDS.iter().position(|kind| *kind == call.kind());
-    let (name, numbers, count, list) = match call {
-        Call::Open(s) => (0, [s.k, s.a, s.beta1, s.beta2], 0, Vec::new()),
+    let mut numbers = [0; NUMBERS];
+    let (name, count, list) = match call {
+        Call::Open(s) => {
+            let setting = [s.k, s.a, s.beta1, s.beta2, s.edition];
+            numbers[..setting.len()].copy_from_slice(&setting);
+            (0, 0, Vec::new())
+        }
         Call::Book {
             name,
             slot,
             parents,
         } => {
             let list = parents.iter().flat_map(|p| p.to_le_bytes()).collect();
-            (*name, [*slot, 0, 0, 0], parents.len(), list)
+            numbers[0] = *slot;
+            (*name, parents.len(), list)
         }
-        Call::Poll { name, votes } => (*name, [0; 4], votes.len(), votes.clone()),
-        Call::Read(_, name) | Call::Index(Indexing::Find(name), _) => {
-            (*name, [0; 4], 0, Vec::new())
-        }
-        Call::WriteFirst(_) | Call::ReadFirst(_) | Call::Index(..) => (0, [0; 4], 0, Vec::new()),
+        Call::Poll { name, votes } => (*name, votes.len(), votes.clone()),
+        Call::Read(_, name) | Call::Index(Indexing::Find(name), _) => (*name, 0, Vec::new()),
+        Call::WriteFirst(_) | Call::ReadFirst(_) | Call::Index(..) => (0, 0, Vec::new()),
     };
     let kind = kind.expect("every kind is listed") as u64;
     let [words, count] = [ws.len(), count].map(|n| n as u64);

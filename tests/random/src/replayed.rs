@@ -1,12 +1,20 @@
-//! The marks that a reading has to make, told by the words that it left. They
-//! say who was booked where and on whom, and which polls came in which order;
+//! The marks and counters that a reading has to make, told by the words that it
+//! left. They say who was booked where and on whom, and which polls came in which order;
 //! here all bookings come before all polls. Nothing is asked of either
 //! program, so that it is a third opinion beside theirs.
 
 use second::layout::*;
 
-/// Who is marked, in rising number. The words are sound.
-pub fn marks(ws: &[u16]) -> Vec<bool> {
+/// What the polls lead to.
+pub struct Outcome {
+    /// Who is marked, in rising number.
+    pub marks: Vec<bool>,
+    /// Each slot's counter.
+    pub counters: Vec<u16>,
+}
+
+/// The outcome of the polls that the words tell of. They are sound.
+pub fn outcome(ws: &[u16]) -> Outcome {
     let bookings: Vec<Booking> = (0..usize::from(ws[N])).map(|b| booking(ws, b)).collect();
     let mut slots = [Slot::default(); SLOTS];
     for (b, booking) in bookings.iter().enumerate() {
@@ -21,21 +29,27 @@ pub fn marks(ws: &[u16]) -> Vec<bool> {
     let mut marks = vec![false; bookings.len()];
     marks[0] = true;
     slots[0].is_marked = true;
+    // What the later edition counts, and the first does not.
+    let more = ws[EDITION];
     for (b, is_success) in polls(ws) {
+        let members = (0..=b).filter(|&m| ancestries[b][m / 64] >> (m % 64) & 1 == 1);
+        let members: Vec<usize> = members.collect();
         if is_success {
-            let members = (0..=b).filter(|&m| ancestries[b][m / 64] >> (m % 64) & 1 == 1);
-            let members: Vec<usize> = members.collect();
             members.iter().for_each(|&m| confidences[m] += 1);
             for m in members {
-                slots[bookings[m].slot].follow(m, &confidences);
+                slots[bookings[m].slot].follow(m, &confidences, more);
             }
+        } else if more == 1 {
+            members
+                .iter()
+                .for_each(|&m| slots[bookings[m].slot].counter = 0);
         }
         for b in 1..bookings.len() {
             let slot = &mut slots[bookings[b].slot];
             let is_own = (slot.preferred, slot.last) == (b, b);
-            let is_earned = is_own && slot.counter > ws[BETA2]
+            let is_earned = is_own && slot.counter + more > ws[BETA2]
                 || slot.count == 1
-                    && slot.counter > ws[BETA1]
+                    && slot.counter + more > ws[BETA1]
                     && bookings[b].parents.iter().all(|&parent| marks[parent]);
             if is_earned && !slot.is_marked {
                 slot.is_marked = true;
@@ -43,7 +57,10 @@ pub fn marks(ws: &[u16]) -> Vec<bool> {
             }
         }
     }
-    marks
+    Outcome {
+        marks,
+        counters: slots.iter().map(|slot| slot.counter).collect(),
+    }
 }
 
 struct Booking {
@@ -62,11 +79,12 @@ struct Slot {
 
 impl Slot {
     /// A member of a successful poll's ancestry has had its confidence raised.
-    fn follow(&mut self, m: usize, confidences: &[u16]) {
+    fn follow(&mut self, m: usize, confidences: &[u16], start: u16) {
         if confidences[m] > confidences[self.preferred] {
             self.preferred = m;
         }
-        self.counter = if self.last == m { self.counter + 1 } else { 0 };
+        let is_last = self.last == m;
+        self.counter = if is_last { self.counter + 1 } else { start };
         self.last = m;
     }
 }
@@ -121,26 +139,33 @@ mod tests {
         ledger.bookings.iter().map(|b| b.is_marked).collect()
     }
 
-    /// The second program makes the same marks, often other ones than the
-    /// history did, and at times a slot's goes to another booking.
+    /// The second program makes the same marks and counters, often other marks
+    /// than the history did, and at times a slot's goes to another booking.
     #[test]
-    fn a_reading_makes_these_marks() {
+    fn a_reading_makes_these_marks_and_counters() {
         let mut prng = Prng::new(1);
         let (mut others, mut handed) = (0, 0);
+        let mut editions = [0, 0];
         for run in 0..200 {
             let style = Style::any(&mut prng);
             let n = any_size(&mut prng, run);
             let ledger = grow(&mut prng, style, n).ledger;
             let mut ws = vec![0; WORDS];
             assert_eq!(read_first(&mut ws, &Day::of(&ledger).file()), (0, 0));
-            let made = marks(&ws);
+            let outcome = outcome(&ws);
+            let made = outcome.marks;
             for (b, &is_marked) in made.iter().enumerate() {
                 assert_eq!(ws[record(b) + MARK], u16::from(is_marked), "run {run}");
             }
+            for (s, &counter) in outcome.counters.iter().enumerate() {
+                assert_eq!(ws[entry(s) + COUNTER], counter, "run {run}");
+            }
+            editions[usize::from(ws[EDITION])] += 1;
             others += usize::from(made != marked(&ledger));
             let is_new = |b: usize| made[b] && ledger.has_marked_rival(b);
             handed += usize::from((0..made.len()).any(is_new));
         }
         assert!(others > 20 && handed > 5, "{others} and {handed} of 200");
+        assert!(editions[0] > 60 && editions[1] > 60, "{editions:?}");
     }
 }

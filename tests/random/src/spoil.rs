@@ -18,7 +18,14 @@ pub enum Kind {
     MuchLonger,
     // one number, mostly to an end of its range
     SettingNumber,
+    /// Fewer numbers than four, or more than five.
     SettingLonger,
+    /// The first edition is told.
+    EditionZero,
+    /// An edition is told that there is none of.
+    EditionAbove,
+    /// The edition is told, or left out, and the count says something else.
+    EditionUncounted,
     Count,
     ParentCount,
     NameOfGenesis,
@@ -29,6 +36,8 @@ pub enum Kind {
     PollBooking,
     Outcome,
     // whole items, with counts that are true
+    /// The same day in the other edition.
+    EditionTurned,
     ParentMore,
     ParentFewer,
     ParentRepeated,
@@ -47,7 +56,7 @@ pub enum Kind {
 }
 
 impl Kind {
-    pub const ALL: [Kind; 31] = [
+    pub const ALL: [Kind; 35] = [
         Kind::ByteChanged,
         Kind::SeveralChanged,
         Kind::BytesSwapped,
@@ -56,6 +65,9 @@ impl Kind {
         Kind::MuchLonger,
         Kind::SettingNumber,
         Kind::SettingLonger,
+        Kind::EditionZero,
+        Kind::EditionAbove,
+        Kind::EditionUncounted,
         Kind::Count,
         Kind::ParentCount,
         Kind::NameOfGenesis,
@@ -65,6 +77,7 @@ impl Kind {
         Kind::Parent,
         Kind::PollBooking,
         Kind::Outcome,
+        Kind::EditionTurned,
         Kind::ParentMore,
         Kind::ParentFewer,
         Kind::ParentRepeated,
@@ -91,6 +104,13 @@ impl Kind {
             | Kind::Longer
             | Kind::MuchLonger => self.spoil_bytes(prng, good.bytes()),
             Kind::Count | Kind::ParentCount => self.spoil_count(prng, good),
+            Kind::EditionUncounted => {
+                let mut other = good.clone();
+                turn_edition(&mut other, prng.word(0, 2));
+                let mut file = other.bytes();
+                file[..2].copy_from_slice(&good.bytes()[..2]);
+                file
+            }
             Kind::RandomBytes => {
                 let length = prng.between(0, 120);
                 (0..length).map(|_| prng.draw() as u8).collect()
@@ -159,12 +179,19 @@ impl Kind {
                 draft.setting[at] = end_of_range(prng, draft.setting[at], &ends);
             }
             Kind::SettingLonger => {
-                if prng.chance(50) {
-                    draft.setting.pop();
-                } else {
-                    draft.setting.push(prng.pick(&[0, 1, 4]));
-                }
+                let length = prng.pick(&[0, 1, 3, 3, 6, 6, 7]);
+                draft.setting.resize(length, prng.pick(&[0, 1, 4]));
             }
+            Kind::EditionZero => {
+                draft.setting.truncate(4);
+                draft.setting.push(0);
+            }
+            Kind::EditionAbove => {
+                draft.setting.truncate(4);
+                let editions = [2, 2, 3, 256, 257, 257, 513, 65535];
+                draft.setting.push(prng.pick(&editions));
+            }
+            Kind::EditionTurned => turn_edition(draft, 1),
             Kind::Outcome | Kind::PollBooking => {
                 let at = some_poll(prng, draft);
                 let n = draft.rows.len() as u16 + 1;
@@ -273,6 +300,14 @@ impl Kind {
     }
 }
 
+/// The edition left out where it is told, and told where it is not.
+fn turn_edition(draft: &mut Draft, told: u16) {
+    match draft.setting.len() {
+        4 => draft.setting.push(told),
+        _ => draft.setting.truncate(4),
+    }
+}
+
 /// A byte next to this one, with a bit flipped, at an end, or any other.
 pub fn other_byte(prng: &mut Prng, byte: u8) -> u8 {
     let [next, previous] = [byte.wrapping_add(1), byte.wrapping_sub(1)];
@@ -353,6 +388,9 @@ mod tests {
             Kind::Cut,
             Kind::Longer,
             Kind::MuchLonger,
+            Kind::EditionZero,
+            Kind::EditionAbove,
+            Kind::EditionUncounted,
             Kind::NameOfGenesis,
             Kind::ParentRepeated,
             Kind::BookingRepeated,
@@ -378,7 +416,12 @@ mod tests {
                 }
             }
             assert_eq!(good == 0, never_good.contains(&kind), "{kind:?}");
-            let never_bad = [Kind::BookingMore, Kind::PollDropped, Kind::PollsSwapped];
+            let never_bad = [
+                Kind::EditionTurned,
+                Kind::BookingMore,
+                Kind::PollDropped,
+                Kind::PollsSwapped,
+            ];
             assert_eq!(bad == 0, never_bad.contains(&kind), "{kind:?}");
         }
         let all = Fault::ALL.map(|fault| format!("{fault:?}"));

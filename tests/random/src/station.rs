@@ -2,13 +2,15 @@
 
 use crate::call::{Beside, Call, Face, Indexing};
 use second::ledger::Reading;
+use second::setting::Setting;
 use second::words::Answer;
 
 use std::ffi::{c_char, c_int, c_void, CString};
 use std::mem::transmute_copy;
 use std::path::Path;
 
-type Open = unsafe extern "C" fn(*mut u16, usize, u16, u16, u16, u16, *mut i64) -> u32;
+type Open = unsafe extern "C" fn(*mut u16, usize, u16, u16, u16, u16, u16, *mut i64) -> u32;
+type OpenFour = unsafe extern "C" fn(*mut u16, usize, u16, u16, u16, u16, *mut i64) -> u32;
 type Book = unsafe extern "C" fn(*mut u16, usize, u64, u16, *const u64, usize, *mut i64) -> u32;
 type Poll = unsafe extern "C" fn(*mut u16, usize, u64, *const u8, usize, *mut i64) -> u32;
 type Read = unsafe extern "C" fn(*const u16, usize, u64, *mut i64) -> u32;
@@ -25,6 +27,7 @@ extern "C" {
         a: u16,
         beta1: u16,
         beta2: u16,
+        edition: u16,
         value: *mut i64,
     ) -> u32;
     fn filz_book(
@@ -97,9 +100,16 @@ const RTLD_NOW: c_int = 2;
 /// shows.
 const UNWRITTEN: i64 = 0x5a5a_5a5a;
 
+/// How a build is opened.
+enum Opening {
+    WithEdition(Open),
+    /// From before there were editions.
+    WithFour(OpenFour),
+}
+
 /// One build of the product, by its functions.
 pub struct Station {
-    open: Open,
+    open: Opening,
     book: Book,
     poll: Poll,
     query: Read,
@@ -117,7 +127,7 @@ pub struct Station {
 
 /// The build that is linked in.
 pub const LINKED: Station = Station {
-    open: filz_open,
+    open: Opening::WithEdition(filz_open),
     book: filz_book,
     poll: filz_poll,
     query: filz_query,
@@ -133,14 +143,18 @@ pub const LINKED: Station = Station {
 };
 
 impl Station {
-    /// Another build, from a shared object.
-    pub fn load(path: &Path) -> Result<Station, String> {
+    /// Another build, from a shared object. Nothing in it tells how many numbers
+    /// its opening takes: whoever has it built knows.
+    pub fn load(path: &Path, has_editions: bool) -> Result<Station, String> {
         let library = library(path)?;
         // SAFETY: each function has the type under which the header of that
         // build declares it.
         unsafe {
             Ok(Station {
-                open: function(library, "filz_open")?,
+                open: match has_editions {
+                    true => Opening::WithEdition(function(library, "filz_open")?),
+                    false => Opening::WithFour(function(library, "filz_open")?),
+                },
                 book: function(library, "filz_book")?,
                 poll: function(library, "filz_poll")?,
                 query: function(library, "filz_query")?,
@@ -235,15 +249,25 @@ impl Face for Station {
         // beside it, or of the value, and none is kept after the call.
         let number = unsafe {
             match call {
-                Call::Open(s) => (self.open)(
-                    ws.as_mut_ptr(),
-                    words,
-                    s.k,
-                    s.a,
-                    s.beta1,
-                    s.beta2,
-                    &mut value,
-                ),
+                Call::Open(s) => {
+                    let ws = ws.as_mut_ptr();
+                    let Setting {
+                        k,
+                        a,
+                        beta1,
+                        beta2,
+                        edition,
+                    } = *s;
+                    match self.open {
+                        Opening::WithEdition(open) => {
+                            open(ws, words, k, a, beta1, beta2, edition, &mut value)
+                        }
+                        Opening::WithFour(open) => {
+                            assert_eq!(edition, 0, "this build has no editions");
+                            open(ws, words, k, a, beta1, beta2, &mut value)
+                        }
+                    }
+                }
                 Call::Book {
                     name,
                     slot,
@@ -330,5 +354,9 @@ impl Face for Station {
             "index_find" => self.index_find.is_some(),
             _ => true,
         }
+    }
+
+    fn has_editions(&self) -> bool {
+        matches!(self.open, Opening::WithEdition(_))
     }
 }

@@ -3,6 +3,7 @@
 
 use crate::call::{Buffer, Call, Cells, Indexing};
 use crate::damage::Kind;
+use crate::editions::{Turn, EDITIONS, UNREACHED_EDITIONS};
 use crate::events::{Moment, EVENTS, UNREACHED_EVENTS};
 use crate::fault::Fault;
 use crate::file;
@@ -48,6 +49,16 @@ impl Tally {
         if let Call::Index(asked, cells) = call {
             self.add_index(*asked, cells, answer, before);
             self.add(answered(kind, number));
+        }
+        if let (Call::Open(setting), 0 | 3) = (call, number) {
+            self.add(match (setting.edition, setting.has_good_numbers()) {
+                (0, true) => OPENED_IN_FIRST,
+                (1, true) => OPENED_IN_LATER,
+                (_, true) => BAD_EDITION,
+                (0, false) => BAD_IN_FIRST,
+                (1, false) => BAD_IN_LATER,
+                (_, false) => BAD_EDITION_AND_MORE,
+            });
         }
         if number != 0 {
             self.add(format!("{kind} refused"));
@@ -182,6 +193,13 @@ impl Tally {
         }
     }
 
+    /// Counts what a taken poll showed of editions.
+    pub fn add_turn(&mut self, turn: &Turn) {
+        for event in turn.events() {
+            self.add(event);
+        }
+    }
+
     /// What should have been seen and was not.
     pub fn missing(&self) -> Vec<String> {
         let refusals = Refusal::numbers().map(refused);
@@ -197,6 +215,12 @@ impl Tally {
             .chain(FILES.into_iter().map(|(case, _)| case.to_string()))
             .chain(FILES.into_iter().map(|(case, _)| read(case)))
             .chain(EVENTS.into_iter().map(|(event, _)| event.to_string()))
+            .chain(EDITIONS.into_iter().map(|(event, _)| event.to_string()))
+            .chain(
+                UNREACHED_EDITIONS
+                    .into_iter()
+                    .map(|(event, _)| event.to_string()),
+            )
             .chain(
                 UNREACHED_EVENTS
                     .into_iter()
@@ -235,6 +259,12 @@ impl Tally {
             MARK_LOST,
             HANDED_ON,
             LENGTH_WITHOUT_MARKS,
+            OPENED_IN_FIRST,
+            OPENED_IN_LATER,
+            BAD_EDITION,
+            BAD_IN_FIRST,
+            BAD_IN_LATER,
+            BAD_EDITION_AND_MORE,
             HIDES_BAD_FILE,
             KEEPS_GOOD_FILE,
             GOOD_ON_SOUND,
@@ -268,6 +298,12 @@ pub const READ_BACK: &str = "files read back";
 pub const MARK_LOST: &str = "files read back, a mark lost";
 pub const HANDED_ON: &str = "files read back, a mark at a rival";
 pub const LENGTH_WITHOUT_MARKS: &str = "words as many as without marks";
+const OPENED_IN_FIRST: &str = "open: the first edition";
+const OPENED_IN_LATER: &str = "open: the later edition";
+const BAD_EDITION: &str = "open: an edition above 1, and nothing else bad";
+const BAD_IN_FIRST: &str = "open: bad numbers, the first edition";
+const BAD_IN_LATER: &str = "open: bad numbers, the later edition";
+const BAD_EDITION_AND_MORE: &str = "open: an edition above 1, and bad numbers";
 const HIDES_BAD_FILE: &str = "1 hides 17";
 const KEEPS_GOOD_FILE: &str = "1 with a good file";
 const GOOD_ON_SOUND: &str = "a good file into sound words";
@@ -602,7 +638,7 @@ mod tests {
         let ledger = || Ok(opened());
         let damage = || Err(Damage([(Header, Broken::SettingBad)].into()));
         type Step = (usize, Answer, Verdict, &'static [&'static str]);
-        let steps: [Step; 4] = [
+        let steps: [Step; 5] = [
             (
                 14,
                 (0, 14),
@@ -616,7 +652,8 @@ mod tests {
                 &["refusal 16", "room: one byte too little"],
             ),
             (13, (2, 0), damage(), &["refusal  2", "2 hides 16"]),
-            (12_266, (2, 0), damage(), &["2 with room for any file"]),
+            (12_267, (2, 0), damage(), &[]),
+            (12_268, (2, 0), damage(), &["2 with room for any file"]),
         ];
         let mut tally = Tally::default();
         for (room, answer, before, reached) in steps {

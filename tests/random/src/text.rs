@@ -3,13 +3,12 @@
 use crate::call::Call;
 use crate::choose::choose_line;
 use crate::flaw::Flaw;
-use crate::grow::{grow, Shape, Style};
+use crate::grow::{grow, setting, Shape, Style};
 use crate::names::Names;
 use crate::prng::Prng;
 use second::console::LONGEST;
 use second::layout::BOOKINGS;
 use second::ledger::Ledger;
-use second::setting::Setting;
 
 #[derive(Clone, Copy, Debug, PartialEq, Eq)]
 pub enum Kind {
@@ -25,6 +24,8 @@ pub enum Kind {
     Acceptance,
     /// Rivals that come when somebody is accepted, and overtake.
     LateRivals,
+    /// Polls that fail between chits, in the later edition.
+    Failures,
     /// All 512 bookings and more.
     Full,
     /// Several ledgers one after another, with refused openings.
@@ -46,7 +47,7 @@ pub enum Kind {
 }
 
 impl Kind {
-    pub const ALL: [Kind; 16] = [
+    pub const ALL: [Kind; 17] = [
         Kind::Ledger,
         Kind::Rivals,
         Kind::Chain,
@@ -54,6 +55,7 @@ impl Kind {
         Kind::OneSlot,
         Kind::Acceptance,
         Kind::LateRivals,
+        Kind::Failures,
         Kind::Full,
         Kind::Reopenings,
         Kind::Unopened,
@@ -159,6 +161,7 @@ fn style_of(prng: &mut Prng, kind: Kind) -> Style {
         },
         Kind::Acceptance => Style::accepting(prng),
         Kind::LateRivals => Style::contested(prng),
+        Kind::Failures => Style::failing(prng),
         // Short lines, so that all fit.
         Kind::Full => Style {
             setting: Style::accepting(prng).setting,
@@ -166,21 +169,17 @@ fn style_of(prng: &mut Prng, kind: Kind) -> Style {
             ..any
         },
         Kind::Extremes => Style {
-            setting: prng.pick(&[
-                Setting::PAPER,
-                setting(64, 64, 510, 510),
-                setting(64, 33, 1, 510),
-            ]),
+            setting: {
+                let numbers = [[10, 8, 11, 150], [64, 64, 510, 510], [64, 33, 1, 510]];
+                let [k, a, beta1, beta2] = prng.pick(&numbers);
+                setting(prng, k, a, beta1, beta2)
+            },
             names: prng.pick(&[Names::Highest, Names::Any, Names::Near]),
             slots: 255,
             ..any
         },
         _ => any,
     }
-}
-
-fn setting(k: u16, a: u16, beta1: u16, beta2: u16) -> Setting {
-    Setting { k, a, beta1, beta2 }
 }
 
 #[derive(Default)]
@@ -255,6 +254,10 @@ impl Writer {
             Call::Open(s) => {
                 for word in [s.k, s.a, s.beta1, s.beta2] {
                     number(prng, u64::from(word));
+                }
+                // The first edition may be left out.
+                if s.edition > 0 || prng.chance(40) {
+                    number(prng, u64::from(s.edition));
                 }
             }
             Call::Book {
@@ -362,6 +365,10 @@ fn tiny(prng: &mut Prng) -> Vec<u8> {
         "open 1 1 1 1\n",
         "open 1 1 1 1\nlist",
         "open 1 1 1 1\nquery 0\n-",
+        "open 1 1 1 1 1\nlist",
+        "open 1 1 1 1 0",
+        "open 1 1 1 1 2\nlist",
+        "open 1 1 1 1 1 1\nlist",
         "open 10 8 11 150\nlist\nlist",
     ])
     .into()

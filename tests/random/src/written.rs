@@ -2,7 +2,7 @@
 //! what was in them.
 
 use crate::file;
-use second::day::{LONGEST_FILE, SHORTEST_FILE};
+use second::day::{EDITION_BYTES, LONGEST_FILE, SHORTEST_FILE};
 use second::layout::{BOOKINGS, PARENTS};
 use second::ledger::{Booking, Ledger, State};
 use std::collections::BTreeSet;
@@ -37,7 +37,7 @@ pub const ROOMS: [Room; 10] = [
 pub type File = (&'static str, fn(&Ledger) -> bool);
 
 /// What was written.
-pub const FILES: [File; 14] = [
+pub const FILES: [File; 17] = [
     ("file: the genesis alone", |ledger| {
         ledger.bookings.len() == 1
     }),
@@ -46,6 +46,15 @@ pub const FILES: [File; 14] = [
     }),
     ("file: the longest", |ledger| {
         file::length(ledger) == LONGEST_FILE
+    }),
+    ("file: the longest of the first edition", |ledger| {
+        file::length(ledger) == LONGEST_FILE - EDITION_BYTES && !ledger.setting.is_later()
+    }),
+    ("file: the first edition", |ledger| {
+        !ledger.setting.is_later()
+    }),
+    ("file: the later edition", |ledger| {
+        ledger.setting.is_later()
     }),
     ("file: bookings and no polls", |ledger| {
         ledger.bookings.len() > 1 && ledger.polls == 0
@@ -130,14 +139,15 @@ mod tests {
             meets(88, 88, &["room: just enough"]),
             meets(89, 88, &["room: one byte to spare"]),
             meets(90, 88, &["room: much to spare"]),
+            meets(12_266, 12_266, &["room: just enough"]),
             meets(
-                12_266,
+                12_268,
                 88,
                 &["room: much to spare", "room: for the longest file"],
             ),
             meets(
-                12_266,
-                12_266,
+                12_268,
+                12_268,
                 &["room: just enough", "room: for the longest file"],
             ),
             meets(65_535, 88, &["room: much to spare"]),
@@ -156,6 +166,8 @@ mod tests {
         }
     }
 
+    const FIRST: &str = "file: the first edition";
+
     #[test]
     fn each_file_is_what_its_name_says() {
         let meets = |ledger: &Ledger, cases: &[&'static str]| {
@@ -165,14 +177,16 @@ mod tests {
             met
         };
         let mut ledger = Ledger::open(Setting::PAPER).expect("it is good");
-        let mut met = vec![meets(&ledger, &["file: the genesis alone"])];
+        let alone = ["file: the genesis alone", FIRST];
+        let mut met = vec![meets(&ledger, &alone)];
         for name in 1..=4 {
             ledger.book(name, 7, &[name - 1]).expect("it is taken");
         }
-        met.push(meets(&ledger, &["file: bookings and no polls"]));
+        met.push(meets(&ledger, &[FIRST, "file: bookings and no polls"]));
         ledger.poll(2, &[1; 10]).expect("it is taken");
         ledger.poll(4, &[1; 10]).expect("it is taken");
         let polled = [
+            FIRST,
             "file: a booking that waits, and polls",
             "file: a poll with success",
         ];
@@ -180,13 +194,14 @@ mod tests {
         ledger.poll(3, &[0; 10]).expect("it is taken");
         ledger.poll(1, &[0; 10]).expect("it is taken");
         let mut cases = vec![
+            FIRST,
             "file: a poll with success",
             "file: a poll without",
             "file: polls out of booking order",
         ];
         met.push(meets(&ledger, &cases));
         ledger.book(5, 7, &[0, 1, 2, 4]).expect("it is taken");
-        cases.insert(0, "file: a booking that waits, and polls");
+        cases.insert(1, "file: a booking that waits, and polls");
         cases.push("file: four parents");
         met.push(meets(&ledger, &cases));
         ledger.book(u64::MAX, 7, &[1, 0]).expect("it is taken");
@@ -200,28 +215,39 @@ mod tests {
         ]);
         met.push(meets(&ledger, &cases));
 
-        let mut ledger = Ledger::open(Setting::PAPER).expect("it is good");
-        for b in 1..512u64 {
-            let parents: Vec<u64> = (b.saturating_sub(4)..b).collect();
-            ledger.book(b, 1, &parents).expect("it is taken");
+        for (edition, own, longest) in [
+            (0, FIRST, "file: the longest of the first edition"),
+            (1, "file: the later edition", "file: the longest"),
+        ] {
+            let setting = Setting {
+                edition,
+                ..Setting::PAPER
+            };
+            let mut ledger = Ledger::open(setting).expect("it is good");
+            for b in 1..512u64 {
+                let parents: Vec<u64> = (b.saturating_sub(4)..b).collect();
+                ledger.book(b, 1, &parents).expect("it is taken");
+            }
+            for b in 1..256 {
+                ledger.poll(b, &[0; 10]).expect("it is taken");
+            }
+            let mut cases = vec![
+                "file: 512 bookings",
+                own,
+                "file: a booking that waits, and polls",
+                "file: a poll without",
+                "file: four parents",
+                "file: a parent with a number above 255",
+            ];
+            met.push(meets(&ledger, &cases));
+            for b in 256..512 {
+                ledger.poll(b, &[0; 10]).expect("it is taken");
+            }
+            cases.remove(2);
+            cases.insert(1, longest);
+            cases.insert(4, "file: a poll of a number above 255");
+            met.push(meets(&ledger, &cases));
         }
-        for b in 1..256 {
-            ledger.poll(b, &[0; 10]).expect("it is taken");
-        }
-        let mut cases = vec![
-            "file: 512 bookings",
-            "file: a booking that waits, and polls",
-            "file: a poll without",
-            "file: four parents",
-            "file: a parent with a number above 255",
-        ];
-        met.push(meets(&ledger, &cases));
-        for b in 256..512 {
-            ledger.poll(b, &[0; 10]).expect("it is taken");
-        }
-        cases[1] = "file: the longest";
-        cases.insert(3, "file: a poll of a number above 255");
-        met.push(meets(&ledger, &cases));
         for (case, _) in FILES {
             assert!(met.iter().flatten().any(|met| *met == case), "{case}");
         }

@@ -74,6 +74,7 @@ pub fn encode(ledger: &Ledger, ws: &mut [u16]) {
     ws[BETA1] = ledger.setting.beta1;
     ws[BETA2] = ledger.setting.beta2;
     ws[P] = ledger.polls;
+    ws[EDITION] = ledger.setting.edition;
     for (b, booking) in ledger.bookings.iter().enumerate() {
         let words = &mut ws[record(b)..record(b + 1)];
         words[NAME..SLOT].copy_from_slice(&name_words(booking.name));

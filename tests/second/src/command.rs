@@ -2,10 +2,11 @@
 //! what is no command is a bad line, whatever the ledger would have said.
 
 use crate::ledger::Reading;
+use crate::setting::Setting;
 
 #[derive(Clone, Debug, PartialEq, Eq)]
 pub enum Command {
-    Open([u16; 4]),
+    Open(Setting),
     Book {
         name: u64,
         slot: u16,
@@ -31,12 +32,16 @@ pub fn parse(line: &[u8]) -> Option<Command> {
     let pieces: Vec<&[u8]> = line.split(|&byte| byte == b' ').collect();
     let (word, numbers) = (pieces[0], &pieces[1..]);
     match (word, numbers) {
-        (b"open", [k, a, beta1, beta2]) => Some(Command::Open([
-            small(k)?,
-            small(a)?,
-            small(beta1)?,
-            small(beta2)?,
-        ])),
+        // Who says nothing of the edition means the first.
+        (b"open", [k, a, beta1, beta2, edition @ ..]) if edition.len() <= 1 => {
+            Some(Command::Open(Setting {
+                k: small(k)?,
+                a: small(a)?,
+                beta1: small(beta1)?,
+                beta2: small(beta2)?,
+                edition: edition.first().map_or(Some(0), |piece| small(piece))?,
+            }))
+        }
         (b"book", [name, slot, parents @ ..]) if parents.len() <= LINE_PARENTS => {
             Some(Command::Book {
                 name: number(name)?,

@@ -7,7 +7,6 @@
 use crate::command::{parse, Command};
 use crate::ledger::Ledger;
 use crate::refusal::Refusal;
-use crate::setting::Setting;
 use std::fmt::Write;
 
 /// The longest input taken, in bytes.
@@ -60,8 +59,8 @@ impl Console {
     }
 
     fn call(&mut self, command: Command, out: &mut String) -> Result<(), Refusal> {
-        if let Command::Open([k, a, beta1, beta2]) = command {
-            self.ledger = Some(Ledger::open(Setting { k, a, beta1, beta2 })?);
+        if let Command::Open(setting) = command {
+            self.ledger = Some(Ledger::open(setting)?);
             return Ok(());
         }
         let ledger = self.ledger.as_mut().ok_or(Refusal::BrokenHeader)?;

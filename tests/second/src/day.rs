@@ -10,12 +10,15 @@ use crate::ledger::{Ledger, State, GENESIS};
 use crate::setting::Setting;
 use std::collections::BTreeMap;
 
-/// The file of the genesis alone: the setting after its count, and two
-/// counts of nothing.
+/// The file of the genesis alone, in the first edition: the setting after its
+/// count, and two counts of nothing.
 pub const SHORTEST_FILE: usize = 14;
-/// The file of a full ledger where every booking was polled and has four
-/// parents, but for numbers 1, 2 and 3, below which there are not so many.
-pub const LONGEST_FILE: usize = 12_266;
+/// The file of a full ledger of the later edition where every booking was
+/// polled and has four parents, but for numbers 1, 2 and 3, below which there
+/// are not so many.
+pub const LONGEST_FILE: usize = 12_268;
+/// What the later edition adds to a file.
+pub const EDITION_BYTES: usize = 2;
 
 /// What a day file carries.
 #[derive(Clone, Debug, PartialEq, Eq)]
@@ -73,10 +76,27 @@ impl Day {
         day
     }
 
+    /// The first edition goes without saying, the later one is told.
+    fn setting_numbers(&self) -> Vec<u16> {
+        let Setting {
+            k,
+            a,
+            beta1,
+            beta2,
+            edition,
+        } = self.setting;
+        let mut numbers = vec![k, a, beta1, beta2];
+        if self.setting.is_later() {
+            numbers.push(edition);
+        }
+        numbers
+    }
+
     /// The bytes of the file, first form.
     pub fn file(&self) -> Vec<u8> {
-        let Setting { k, a, beta1, beta2 } = self.setting;
-        let setting = [k, a, beta1, beta2].map(|n| number(n.into()).to_vec());
+        let setting: Vec<_> = (self.setting_numbers().into_iter())
+            .map(|n| number(n.into()).to_vec())
+            .collect();
         let bookings: Vec<_> = self.bookings.iter().map(Booked::bytes).collect();
         let polls: Vec<_> = self.polls.values().map(Polled::bytes).collect();
         [section(&setting), section(&bookings), section(&polls)].concat()

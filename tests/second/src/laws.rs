@@ -5,7 +5,8 @@
 //! `Picture` of the ledger (taken from words, or from a printed list) has to
 //! show. It keeps the ancestry of each booking as the union of its parents'
 //! ancestries, and who was accepted in the pictures that it has seen.
-//! `marking` says what a single call may do to marks.
+//! `marking` says what a single call may do to marks, `counting` what to
+//! counters.
 
 use crate::console::LIST_HEADER;
 use crate::day::Day;
@@ -47,7 +48,8 @@ pub enum Law {
     /// A slot has at most one accepted booking.
     AcceptedOnce,
     /// More than β1 chits are built on an accepted booking, the genesis
-    /// apart: no counter passes β1 by less.
+    /// apart, or in the later edition β1 of them: no counter is enough for β1
+    /// by less.
     AcceptedByChits,
     /// Who is accepted stays so until a taken opening or reading.
     AcceptedStays,
@@ -56,6 +58,9 @@ pub enum Law {
     MarkEarned,
     /// After a poll, whoever meets the rule has a mark, or a rival had one.
     MarkGiven,
+    /// Last and counter of each slot are what the poll makes of them in the
+    /// ledger's edition, which stays.
+    Counted,
 }
 
 #[derive(Clone, Debug, PartialEq, Eq)]
@@ -82,10 +87,10 @@ struct Past {
 /// The taken calls since the last taken opening or reading.
 #[derive(Default)]
 pub struct History {
-    /// Yes votes that a poll needs, and the bound that a lone booking's
-    /// counter has to pass.
+    /// Yes votes that a poll needs, and the chits without which nobody is
+    /// accepted.
     needed: usize,
-    beta1: u16,
+    least_chits: u16,
     bookings: Vec<Past>,
     numbers: HashMap<u64, usize>,
     polls: usize,
@@ -100,7 +105,7 @@ impl History {
     pub fn opened(&mut self, setting: &Setting) {
         *self = History {
             needed: usize::from(setting.a),
-            beta1: setting.beta1,
+            least_chits: setting.beta1 + 1 - setting.edition,
             ..History::default()
         };
         self.add(0, 0, HashSet::new());
@@ -200,7 +205,7 @@ impl History {
         let accepted: HashSet<usize> = accepted.map(|(b, _)| b).collect();
         for &b in accepted.iter().filter(|&&b| b != GENESIS) {
             let confidence = rows[b].confidence;
-            holds(confidence > self.beta1, Law::AcceptedByChits, || {
+            holds(confidence >= self.least_chits, Law::AcceptedByChits, || {
                 format!("booking {b} is accepted with {confidence} chits built on it")
             })?;
         }

@@ -1,7 +1,7 @@
 //! Where each word of the workspace stands.
 //!
 //! ```text
-//! header       8 words   n, k, a, β1, β2, p, 0, 0
+//! header       8 words   n, k, a, β1, β2, p, edition, 0
 //! records    512 × 13    name (4, highest part first), slot, parents (4),
 //!                        state, confidence, ordinal, mark
 //! entries    256 × 4     preferred, last, counter, how many bookings
@@ -29,7 +29,8 @@ pub const A: usize = 2;
 pub const BETA1: usize = 3;
 pub const BETA2: usize = 4;
 pub const P: usize = 5;
-pub const REST: usize = 6;
+pub const EDITION: usize = 6;
+pub const REST: usize = 7;
 
 /// Words of a record.
 pub const NAME: usize = 0;

@@ -205,6 +205,7 @@ impl Ledger {
             self.succeed(b);
         } else {
             self.bookings[b].state = State::Polled;
+            self.fail(b);
         }
         // Whatever came of the poll, and whoever was polled.
         self.mark_all();
@@ -223,21 +224,33 @@ impl Ledger {
         }
     }
 
+    /// What failure brings to the ancestry of a booking: nothing in the first
+    /// edition; in the later one every slot that it stands in counts from
+    /// nothing again, whoever is last there.
+    fn fail(&mut self, b: usize) {
+        if !self.setting.is_later() {
+            return;
+        }
+        for m in self.ancestry(b) {
+            self.slot_mut(m).counter = 0;
+        }
+    }
+
     /// A member of a successful poll's ancestry moves its slot: first the
     /// preference, by strictly more confidence, then last and counter.
     fn follow(&mut self, m: usize) {
-        let slot = self
-            .slots
-            .get_mut(&self.bookings[m].slot)
-            .expect("a booking's slot has bookings");
-        if self.bookings[m].confidence > self.bookings[slot.preferred].confidence {
+        let preferred = self.slot_of(m).preferred;
+        let overtakes = self.bookings[m].confidence > self.bookings[preferred].confidence;
+        let restart = self.setting.restart();
+        let slot = self.slot_mut(m);
+        if overtakes {
             slot.preferred = m;
         }
         if slot.last == m {
             slot.counter += 1;
         } else {
             slot.last = m;
-            slot.counter = 0;
+            slot.counter = restart;
         }
     }
 
@@ -276,6 +289,11 @@ impl Ledger {
         &self.slots[&self.bookings[b].slot]
     }
 
+    fn slot_mut(&mut self, b: usize) -> &mut Slot {
+        let slot = self.slots.get_mut(&self.bookings[b].slot);
+        slot.expect("a booking's slot has bookings")
+    }
+
     pub fn is_preferred(&self, b: usize) -> bool {
         self.slot_of(b).preferred == b
     }
@@ -291,15 +309,16 @@ impl Ledger {
     }
 
     /// The genesis earns a mark. Another booking earns one by its slot's
-    /// counter above β1 if it stands alone on marked parents, or by the
-    /// counter above β2 if the counter is its own: preferred and last.
+    /// counter being enough for β1 if it stands alone on marked parents, or
+    /// for β2 if the counter is its own: preferred and last.
     pub fn earns_mark(&self, b: usize) -> bool {
         if b == GENESIS {
             return true;
         }
         let slot = self.slot_of(b);
-        let own = slot.preferred == b && slot.last == b && slot.counter > self.setting.beta2;
-        let alone = slot.bookings.len() == 1 && slot.counter > self.setting.beta1;
+        let is_enough = |beta| self.setting.is_enough(slot.counter, beta);
+        let own = slot.preferred == b && slot.last == b && is_enough(self.setting.beta2);
+        let alone = slot.bookings.len() == 1 && is_enough(self.setting.beta1);
         let mut parents = self.bookings[b].parents.iter();
         own || alone && parents.all(|&parent| self.bookings[parent].is_marked)
     }

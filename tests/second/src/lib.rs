@@ -5,7 +5,7 @@
 //! into maps, walks ancestries by recursion, and writes the words back.
 //!
 //! - `layout`: where each word of the workspace stands
-//! - `setting`: k, a, β1, β2, and which are good
+//! - `setting`: k, a, β1, β2 and the edition, and which are good
 //! - `refusal`: the numbered refusals, and the row that some of them name
 //! - `ledger`: the rules of the vote, on maps
 //! - `sound`: which sentences of soundness words break, and at which row
@@ -19,10 +19,12 @@
 //! - `console`: the text program
 //! - `laws`: what must hold after every history, checked from outside
 //! - `marking`: what a call may do to marks, checked from outside
+//! - `counting`: the same of counters
 
 pub mod codec;
 pub mod command;
 pub mod console;
+pub mod counting;
 pub mod day;
 pub mod index;
 pub mod laws;

@@ -76,10 +76,12 @@ fn earns(ws: &[u16], b: usize) -> bool {
     let entry = &ws[entry(slot(ws, b))..];
     let is_own = [entry[PREFERRED], entry[LAST]] == [b as u16; 2];
     let mut parents = words[PARENT..STATE].iter().filter(|&&p| p != UNUSED);
+    // In the later edition a counter at a bound is as good as one above it.
+    let counted = u32::from(entry[COUNTER]) + u32::from(ws[EDITION]);
     b == GENESIS
-        || is_own && entry[COUNTER] > ws[BETA2]
+        || is_own && counted > ws[BETA2].into()
         || entry[COUNT] == 1
-            && entry[COUNTER] > ws[BETA1]
+            && counted > ws[BETA1].into()
             && parents.all(|&parent| is_marked(ws, parent.into()))
 }
 

@@ -13,11 +13,20 @@ pub fn parse(file: &[u8]) -> Option<Day> {
     let setting = rest.section(Rest::number)?;
     let bookings = rest.section(Rest::booking)?;
     let polls = rest.section(Rest::poll)?;
-    let [k, a, beta1, beta2] = setting[..] else {
-        return None;
+    let (numbers, edition) = match setting[..] {
+        [k, a, beta1, beta2] => ([k, a, beta1, beta2], 0),
+        [k, a, beta1, beta2, edition] => ([k, a, beta1, beta2], edition),
+        _ => return None,
     };
+    let [k, a, beta1, beta2] = numbers;
     rest.0.is_empty().then(|| Day {
-        setting: Setting { k, a, beta1, beta2 },
+        setting: Setting {
+            k,
+            a,
+            beta1,
+            beta2,
+            edition,
+        },
         bookings,
         polls: (1..).zip(polls).collect(),
     })

@@ -18,6 +18,7 @@ pub enum Broken {
     // the header
     BookingsOutside,
     SettingBad,
+    EditionOutside,
     PollsAboveBookings,
     HeaderRestNotZero,
     // record 0
@@ -55,9 +56,10 @@ pub enum Broken {
 }
 
 impl Broken {
-    pub const ALL: [Broken; 31] = [
+    pub const ALL: [Broken; 32] = [
         Broken::BookingsOutside,
         Broken::SettingBad,
+        Broken::EditionOutside,
         Broken::PollsAboveBookings,
         Broken::HeaderRestNotZero,
         Broken::GenesisName,
@@ -167,10 +169,12 @@ fn is_bookings(n: usize) -> bool {
 
 fn judge_header(ws: &[u16]) -> Vec<Broken> {
     let (n, polls) = (ws[N], ws[P]);
+    let setting = Setting::of_words(ws);
     let rest = &ws[REST..HEADER_WORDS];
     not_held([
         (is_bookings(usize::from(n)), Broken::BookingsOutside),
-        (Setting::of_words(ws).is_good(), Broken::SettingBad),
+        (setting.has_good_numbers(), Broken::SettingBad),
+        (setting.has_edition(), Broken::EditionOutside),
         (polls < n, Broken::PollsAboveBookings),
         (is_zero(rest), Broken::HeaderRestNotZero),
     ])

@@ -47,8 +47,14 @@ fn load_beside(ws: &[u16], cells: &[u16]) -> Result<Ledger, Refusal> {
 }
 
 /// Opening looks at the length and the setting, never at the old words.
-pub fn open(ws: &mut [u16], k: u16, a: u16, beta1: u16, beta2: u16) -> Answer {
-    let setting = Setting { k, a, beta1, beta2 };
+pub fn open(ws: &mut [u16], k: u16, a: u16, beta1: u16, beta2: u16, edition: u16) -> Answer {
+    let setting = Setting {
+        k,
+        a,
+        beta1,
+        beta2,
+        edition,
+    };
     answer((|| {
         if ws.len() != WORDS {
             return Err(Refusal::Length);

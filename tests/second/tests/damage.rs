@@ -512,6 +512,32 @@ fn another_length_comes_before_all_damage() {
     }
 }
 
+/// An edition that there is none of hides records and slots, and one that
+/// there is leaves them to be named.
+#[test]
+fn an_edition_before_records_and_slots() {
+    for (edition, is_known) in [(0, true), (1, true), (2, false), (65535, false)] {
+        let mut ws = run_polled(4);
+        ws[EDITION] = edition;
+        ws[entry(9) + COUNTER] = 4;
+        let header = (Header, Broken::EditionOutside);
+        let mut all = vec![(Slot(9), Broken::CounterAboveChits)];
+        if is_known {
+            refused(15, 9, &all, &ws);
+        } else {
+            all.push(header);
+            refused(2, 0, &all, &ws);
+        }
+        ws[record(3) + CONFIDENCE] = 4;
+        all.push((Record(3), Broken::ConfidenceAboveChits));
+        if is_known {
+            refused(14, 3, &all, &ws);
+        } else {
+            refused(2, 0, &all, &ws);
+        }
+    }
+}
+
 /// All zero: no bookings, and so no room for polls either.
 #[test]
 fn words_before_an_opening() {
@@ -525,6 +551,7 @@ fn words_before_an_opening() {
     let all = [
         (Header, Broken::BookingsOutside),
         (Header, Broken::SettingBad),
+        (Header, Broken::EditionOutside),
         (Header, Broken::PollsAboveBookings),
         (Header, Broken::HeaderRestNotZero),
     ];

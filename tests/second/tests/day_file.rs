@@ -97,6 +97,43 @@ fn the_setting() {
     writes_sections(&ws, ["0004  000a 0008 000b 0096", "0000", "0000"]);
 }
 
+/// The later edition is a fifth number, and the count says so. Nothing else
+/// of the file is another.
+#[test]
+fn the_later_edition_is_told() {
+    let setting = "0005  0003 0002 0001 0002 0001";
+    let ws = opened_in(1, 3, 2, 1, 2);
+    writes_sections(&ws, [setting, "0000", "0000"]);
+    assert_eq!(write_first(&ws, &mut [0; 16]), (0, 16));
+    refuses(&ws, 15, (16, 0));
+    refuses(&ws, 14, (16, 0));
+    let polls = "0004  0002 0001  0003 0000  0004 0001  0001 0001";
+    let ws = run_polled_in(1, 4);
+    writes_sections(&ws, [setting, RUN_BOOKED, polls]);
+    assert_eq!(write_first(&ws, &mut [0; 90]), (0, 90));
+    refuses(&ws, 89, (16, 0));
+    refuses(&ws, 88, (16, 0));
+    let ws = opened_in(1, 64, 33, 256, 510);
+    writes_sections(&ws, ["0005  0040 0021 0100 01fe 0001", "0000", "0000"]);
+}
+
+/// What makes the edition is its word alone: that of words which no history
+/// of the edition reaches is told too.
+#[test]
+fn the_edition_of_words_is_told() {
+    let polls = "0004  0002 0001  0003 0000  0004 0001  0001 0001";
+    let mut ws = run_polled(4);
+    ws[EDITION] = 1;
+    let setting = "0005  0003 0002 0001 0002 0001";
+    writes_sections(&ws, [setting, RUN_BOOKED, polls]);
+    for edition in [2, 65535] {
+        ws[EDITION] = edition;
+        for room in [0, 13, 88, 90, LONGEST_FILE] {
+            refuses(&ws, room, (2, 0));
+        }
+    }
+}
+
 /// All 64 bits of a name, the highest byte first. A parent is written by its
 /// number, which says nothing of its name, and in the order given.
 #[test]
@@ -168,34 +205,26 @@ fn what_the_votes_led_to_is_not_written() {
     writes_sections(&ws, [RUN_SETTING, RUN_BOOKED, polls]);
 }
 
-/// A full ledger where every place for a parent is used and every booking
-/// was polled, the last one first, with success where the number is even.
-fn longest() -> Vec<u16> {
-    let name = |b: u64| if b == 0 { 0 } else { u64::MAX - b };
-    let mut ws = opened(1, 1, 1, 2);
-    for b in 1..512 {
-        let slot = 1 + (b as u16 - 1) % 255;
-        let parents: Vec<u64> = (0..b).rev().take(4).map(name).collect();
-        must_book(&mut ws, name(b), slot, &parents);
-    }
-    for b in (1..512).rev() {
-        must_poll(&mut ws, name(b), &[u8::from(b % 2 == 0)]);
-    }
-    ws
-}
-
 /// The bookings start at 12: one of 14 bytes, 16, 18, and 20 each from
 /// number 4 on, at 60. The polls start at 60 + 20 * 508 + 2 = 10222, and the
-/// end is 10222 + 4 * 511.
+/// end is 10222 + 4 * 511. With the edition all of it is two bytes further.
 #[test]
 fn the_longest_file() {
-    let ws = longest();
-    let mut out = [0xa5; 12_266];
-    assert_eq!(write_first(&ws, &mut out), (0, 12_266));
-    refuses(&ws, 12_265, (16, 0));
+    has_pieces(0, "0004  0001 0001 0001 0002");
+    has_pieces(1, "0005  0001 0001 0001 0002 0001");
+    assert_eq!(LONGEST_FILE, 12_268);
+}
+
+fn has_pieces(edition: u16, setting: &str) {
+    let more = 2 * usize::from(edition);
+    let length = 12_266 + more;
+    let ws = longest_in(edition);
+    let mut out = vec![0xa5; length];
+    assert_eq!(write_first(&ws, &mut out), (0, length as i64));
+    refuses(&ws, length - 1, (16, 0));
     writes(&ws, &out);
+    assert!(out.starts_with(&bytes(setting)));
     let pieces = [
-        (0, "0004  0001 0001 0001 0002"),
         (10, "01ff"),
         (12, "fffffffffffffffe  0001  0001  0000"),
         (26, "fffffffffffffffd  0002  0002  0001 0000"),
@@ -209,10 +238,9 @@ fn the_longest_file() {
         (12258, "0002 0001  0001 0000"),
     ];
     for (at, digits) in pieces {
-        let piece = bytes(digits);
+        let (at, piece) = (at + more, bytes(digits));
         assert_eq!(out[at..at + piece.len()], piece, "from byte {at} on");
     }
-    assert_eq!(LONGEST_FILE, 12_266);
 }
 
 /// A chain has one parent each: 14 bytes for each booking, and for each poll
@@ -281,7 +309,7 @@ fn damage_to_what_a_file_carries() {
     let mut ws = run_polled(4);
     ws[record(2) + PARENT] = 2;
     refuses(&ws, LONGEST_FILE, (14, 2));
-    let mut ws = longest();
+    let mut ws = longest_in(0);
     ws[record(511) + STATE] = 0;
     ws[record(511) + ORDINAL] = 0;
     refuses(&ws, LONGEST_FILE, (14, 512));

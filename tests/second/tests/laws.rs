@@ -9,7 +9,13 @@ use second::setting::Setting;
 use second::words;
 
 fn setting(k: u16, a: u16, beta1: u16, beta2: u16) -> Setting {
-    Setting { k, a, beta1, beta2 }
+    Setting {
+        k,
+        a,
+        beta1,
+        beta2,
+        edition: 0,
+    }
 }
 
 /// Run as a history.
@@ -86,6 +92,29 @@ fn nobody_is_accepted_without_chits() {
     );
     let broken = broken_law(|picture| picture.rows[4].is_accepted = true);
     assert_eq!(broken, Some(Law::AcceptedByChits));
+}
+
+/// In the later edition one chit is enough for β1 = 1, and none is not.
+#[test]
+fn who_is_accepted_in_the_later_edition() {
+    let mut history = History::default();
+    history.opened(&Setting {
+        edition: 1,
+        ..setting(1, 1, 1, 2)
+    });
+    history.booked(1, 7, &[0]);
+    history.booked(2, 8, &[1]);
+    history.polled(1, &[1]);
+    let mut ws = opened_in(1, 1, 1, 1, 2);
+    must_book(&mut ws, 1, 7, &[0]);
+    must_book(&mut ws, 2, 8, &[1]);
+    must_poll(&mut ws, 1, &[1]);
+    let mut picture = picture(&ws);
+    assert!(picture.rows[1].is_accepted);
+    assert_eq!(history.check(&picture), Ok(()));
+    picture.rows[2].is_accepted = true;
+    let breach = history.check(&picture).unwrap_err();
+    assert_eq!(breach.law, Law::AcceptedByChits);
 }
 
 /// One picture after the other, of P10 and of a rival that comes after it.

@@ -29,7 +29,7 @@ fn marks(ws: &mut [u16], name: u64, vote: u8, expected: &[usize]) {
 #[test]
 fn an_opening_marks_the_genesis() {
     let mut ws = overtaken();
-    assert_eq!(open(&mut ws, 1, 1, 1, 2), (0, 0));
+    assert_eq!(open(&mut ws, 1, 1, 1, 2, 0), (0, 0));
     assert_eq!(marked(&ws), [0]);
     assert_eq!(accepted(&ws, 0), (0, 1));
     assert_eq!(check_opening(&ws), Ok(()));
@@ -177,7 +177,7 @@ fn a_rival_that_comes_in_time_asks_for_beta2() {
 fn refused_calls_leave_marks() {
     let before = overtaken();
     let mut ws = before.clone();
-    assert_eq!(open(&mut ws, 2, 1, 1, 2), (3, 0));
+    assert_eq!(open(&mut ws, 2, 1, 1, 2, 0), (3, 0));
     assert_eq!(book(&mut ws, 1, 7, &[0]), (4, 0));
     assert_eq!(poll(&mut ws, 1, &[1]), (11, 0));
     assert_eq!(read_first(&mut ws, &[]), (17, 0));

@@ -7,7 +7,7 @@ mod ledgers;
 use digits::*;
 use ledgers::*;
 use second::codec::decode;
-use second::day::{LONGEST_FILE, SHORTEST_FILE};
+use second::day::{EDITION_BYTES, LONGEST_FILE, SHORTEST_FILE};
 use second::laws::{History, Picture};
 use second::layout::*;
 use second::parse::parse;
@@ -81,6 +81,7 @@ fn written(ws: &[u16]) -> Vec<u8> {
 }
 
 const SETTING: &str = "0004  0003 0002 0001 0002";
+const LATER_SETTING: &str = "0005  0003 0002 0001 0002 0001";
 const BOOKED: &str = "0004
     0000000000000001  0007  0001  0000
     0000000000000002  0007  0001  0000
@@ -94,6 +95,11 @@ fn run_file() -> Vec<u8> {
     bytes(&[SETTING, BOOKED, POLLS].concat())
 }
 
+/// Run's file in the later edition.
+fn later_file() -> Vec<u8> {
+    bytes(&[LATER_SETTING, BOOKED, POLLS].concat())
+}
+
 // ---- what reading makes
 
 #[test]
@@ -102,6 +108,38 @@ fn the_file_of_run_makes_run() {
     for count in 0..4 {
         let ws = run_polled(count);
         makes(&written(&ws), &ws);
+    }
+}
+
+/// The edition is read with the setting, and the file's polls are taken by its
+/// rules.
+#[test]
+fn a_file_of_the_later_edition() {
+    makes(&later_file(), &run_polled_in(1, 4));
+    for count in 0..4 {
+        let ws = run_polled_in(1, count);
+        makes(&written(&ws), &ws);
+    }
+    // Slots 0 and 7 show which rules they were.
+    let counters = |file: &[u8]| {
+        let ws = taken(file);
+        [0, 7].map(|s| entry_words(&ws, s)[COUNTER])
+    };
+    assert_eq!(counters(&run_file()), [3, 0]);
+    assert_eq!(counters(&later_file()), [2, 1]);
+}
+
+/// A day goes on in the edition of the file, whatever that of the words was.
+#[test]
+fn a_reading_changes_the_edition() {
+    for (before, after) in [(0, 1), (1, 0), (1, 1), (0, 0)] {
+        let mut ws = run_polled_in(before, 4);
+        let file = written(&run_polled_in(after, 2));
+        assert_eq!(read_first(&mut ws, &file), (0, 0));
+        assert_eq!(ws[EDITION], after);
+        must_poll(&mut ws, 4, &[1, 1, 1]);
+        must_poll(&mut ws, 1, &[1, 1, 0]);
+        assert_eq!(ws, run_polled_in(after, 4));
     }
 }
 
@@ -125,6 +163,9 @@ fn the_shortest_file_opens() {
     let file = bytes("0004 0003 0002 0001 0002 0000 0000");
     assert_eq!(file.len(), SHORTEST_FILE);
     makes(&file, &opened(3, 2, 1, 2));
+    let file = bytes("0005 0003 0002 0001 0002 0001 0000 0000");
+    assert_eq!(file.len(), SHORTEST_FILE + EDITION_BYTES);
+    makes(&file, &opened_in(1, 3, 2, 1, 2));
 }
 
 /// Polls in another order than the bookings, names with all their bits.
@@ -144,17 +185,12 @@ fn polls_in_the_order_of_the_file() {
 /// A full ledger with the longest file, polled from the last to the first.
 #[test]
 fn the_longest_file() {
-    let mut ws = opened(1, 1, 1, 2);
-    for b in 1..512u64 {
-        let parents: Vec<u64> = (0..b).rev().take(4).collect();
-        must_book(&mut ws, b, 1 + (b as u16 - 1) % 255, &parents);
+    for (edition, length) in [(0, 12_266), (1, LONGEST_FILE)] {
+        let ws = longest_in(edition);
+        let file = written(&ws);
+        assert_eq!(file.len(), length);
+        makes(&file, &ws);
     }
-    for b in (1..512).rev() {
-        must_poll(&mut ws, b, &[u8::from(b % 2 == 0)]);
-    }
-    let file = written(&ws);
-    assert_eq!(file.len(), LONGEST_FILE);
-    makes(&file, &ws);
 }
 
 /// Only what a file carries is kept: from words that no history reaches the
@@ -264,10 +300,42 @@ fn the_count_of_the_setting() {
     for count in ["0000", "0003", "0005", "0400", "0104", "ffff"] {
         bad([&format!("{count} 0003 0002 0001 0002"), BOOKED, POLLS]);
     }
-    // As many numbers as it says: none, three, and five.
+    for count in ["0000", "0003", "0004", "0006", "0500", "0105", "ffff"] {
+        bad([&format!("{count} 0003 0002 0001 0002 0001"), BOOKED, POLLS]);
+    }
+    // As many numbers as it says: none, three, and six.
     bad(["0000", "0000", "0000"]);
     bad(["0003 0003 0002 0001", "0000", "0000"]);
-    bad(["0005 0003 0002 0001 0002 0000", "0000", "0000"]);
+    bad(["0006 0003 0002 0001 0002 0001 0000", "0000", "0000"]);
+    bad(["0006 0003 0002 0001 0002 0001 0001", "0000", "0000"]);
+}
+
+/// Only the later edition is told: the first is never written so.
+#[test]
+fn the_edition() {
+    let told = |edition: &str| format!("0005 0003 0002 0001 0002 {edition}");
+    for (booked, polls) in [("0000", "0000"), (ONE, "0000"), (BOOKED, POLLS)] {
+        good([&told("0001"), booked, polls]);
+        good([SETTING, booked, polls]);
+        for edition in ["0000", "0002", "0003", "0100", "0101", "8001", "ffff"] {
+            bad([&told(edition), booked, polls]);
+        }
+        // Told, and the count says that it is not.
+        for edition in ["0000", "0001", "0002"] {
+            bad([&format!("{SETTING} {edition}"), booked, polls]);
+        }
+    }
+}
+
+/// The same numbers behind the setting are counts or an edition, as the first
+/// count says.
+#[test]
+fn four_numbers_and_what_follows_them() {
+    good(["0004 0003 0002 0001 0002", "0000", "0000"]);
+    bad(["0004 0003 0002 0001 0002", "0000", "0000 0000"]);
+    bad(["0005 0003 0002 0001 0002", "0000", "0000"]);
+    bad(["0005 0003 0002 0001 0002", "0001", "0000"]);
+    good(["0005 0003 0002 0001 0002", "0001", "0000 0000"]);
 }
 
 #[test]
@@ -291,6 +359,7 @@ fn the_setting() {
         "0003 0002 0001 01ff",
     ] {
         bad([&opens(numbers), ONE, "0000"]);
+        bad([&format!("0005 {numbers} 0001"), ONE, "0000"]);
     }
 }
 
@@ -457,13 +526,32 @@ fn good_values(at: usize) -> Vec<u8> {
 
 #[test]
 fn every_value_of_every_byte() {
-    let file = run_file();
+    assert_eq!(others_that_are_good(&run_file(), good_values), 9_430); // docs/DAYFILE.md says so
+}
+
+/// The edition is two bytes more, neither of which may be another.
+#[test]
+fn every_value_of_every_byte_in_the_later_edition() {
+    let good_values = |at| match at {
+        0 => vec![0],
+        1 => vec![5],
+        2..10 => good_values(at),
+        10 => vec![0],
+        11 => vec![1],
+        _ => good_values(at - 2),
+    };
+    assert_eq!(others_that_are_good(&later_file(), good_values), 9_430);
+}
+
+/// How many other files with one byte changed are good; exactly those that
+/// have one of these values there.
+fn others_that_are_good(file: &[u8], good_values: impl Fn(usize) -> Vec<u8>) -> usize {
     let before = run_polled(1);
     let mut others = 0;
     for at in 0..file.len() {
         let values = good_values(at);
         for value in 0..=255 {
-            let mut other = file.clone();
+            let mut other = file.to_vec();
             other[at] = value;
             let mut ws = before.clone();
             let (number, _) = read_first(&mut ws, &other);
@@ -479,7 +567,7 @@ fn every_value_of_every_byte() {
             }
         }
     }
-    assert_eq!(others, 9_430); // docs/DAYFILE.md says so
+    others
 }
 
 /// The one count of the file that may be another.

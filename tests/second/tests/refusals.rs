@@ -23,8 +23,18 @@ fn names(ws: &[u16], number: u32, value: i64, call: impl FnOnce(&mut [u16]) -> A
     }
 }
 
+/// In both editions, and in none where there is no such edition.
 fn opens(number: u32, k: u16, a: u16, beta1: u16, beta2: u16) {
-    answers(&vec![7; WORDS], number, |ws| open(ws, k, a, beta1, beta2));
+    let opens_in = |edition, number| {
+        answers(&vec![7; WORDS], number, |ws| {
+            open(ws, k, a, beta1, beta2, edition)
+        });
+    };
+    opens_in(0, number);
+    opens_in(1, number);
+    for edition in [2, 3, 255, 256, 257, 32768, 65535] {
+        opens_in(edition, 3);
+    }
 }
 
 fn books(number: u32, name: u64, slot: u16, parents: &[u64]) {
@@ -39,7 +49,7 @@ fn polls(number: u32, name: u64, votes: &[u8]) {
 #[test]
 fn the_workspace_has_7688_words() {
     assert_eq!((ENTRIES_START, WORDS), (6_664, 7_688));
-    answers(&[7; 7_688], 0, |ws| open(ws, 1, 1, 1, 1));
+    answers(&[7; 7_688], 0, |ws| open(ws, 1, 1, 1, 1, 0));
 }
 
 #[test]
@@ -56,14 +66,14 @@ fn refusal_1_any_other_length() {
         let mut ws = run_booked();
         ws.resize(length, 0);
         // The length comes first, before a setting or a name is looked at.
-        answers(&ws, 1, |ws| open(ws, 0, 0, 0, 0));
+        answers(&ws, 1, |ws| open(ws, 0, 0, 0, 0, 0));
         answers(&ws, 1, |ws| book(ws, 0, 0, &[]));
         answers(&ws, 1, |ws| poll(ws, 77, &[]));
         for reading in [query, accepted, lead, confidence, size] {
             answers(&ws, 1, |ws| reading(ws, 0));
         }
     }
-    answers(&run_booked(), 0, |ws| open(ws, 1, 1, 1, 1));
+    answers(&run_booked(), 0, |ws| open(ws, 1, 1, 1, 1, 0));
 }
 
 #[test]
@@ -75,7 +85,7 @@ fn refusal_2_all_zero_words() {
         answers(&ws, 2, |ws| reading(ws, 0));
     }
     // Opening does not look at the old words.
-    answers(&ws, 0, |ws| open(ws, 1, 1, 1, 1));
+    answers(&ws, 0, |ws| open(ws, 1, 1, 1, 1, 0));
 }
 
 /// Run's chits number three: that many, then one more.
@@ -91,8 +101,8 @@ fn refusal_14_a_record() {
     for reading in [query, accepted, lead, confidence, size] {
         names(&ws, 14, 3, |ws| reading(ws, 77));
     }
-    answers(&ws, 3, |ws| open(ws, 0, 0, 0, 0));
-    answers(&ws, 0, |ws| open(ws, 1, 1, 1, 1));
+    answers(&ws, 3, |ws| open(ws, 0, 0, 0, 0, 0));
+    answers(&ws, 0, |ws| open(ws, 1, 1, 1, 1, 0));
 }
 
 #[test]
@@ -107,8 +117,8 @@ fn refusal_15_a_slot_entry() {
     for reading in [query, accepted, lead, confidence, size] {
         names(&ws, 15, 9, |ws| reading(ws, 77));
     }
-    answers(&ws, 3, |ws| open(ws, 0, 0, 0, 0));
-    answers(&ws, 0, |ws| open(ws, 1, 1, 1, 1));
+    answers(&ws, 3, |ws| open(ws, 0, 0, 0, 0, 0));
+    answers(&ws, 0, |ws| open(ws, 1, 1, 1, 1, 0));
 }
 
 #[test]

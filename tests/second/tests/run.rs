@@ -1,4 +1,5 @@
-//! The listing of Run, the cases P1 to P12, and the cases beside them.
+//! The listing of Run, the cases P1 to P12, and the cases beside them. P2, P4
+//! and P9 are about the first edition; `editions.rs` has their neighbours.
 
 mod ledgers;
 use ledgers::*;
@@ -104,8 +105,8 @@ fn p11_three_no_votes_fail() {
 #[test]
 fn p12_half_is_no_majority() {
     let mut ws = vec![0; WORDS];
-    assert_eq!(open(&mut ws, 2, 1, 1, 2), (3, 0));
-    assert_eq!(open(&mut ws, 2, 2, 1, 2), (0, 0));
+    assert_eq!(open(&mut ws, 2, 1, 1, 2, 0), (3, 0));
+    assert_eq!(open(&mut ws, 2, 2, 1, 2, 0), (0, 0));
 }
 
 #[test]
@@ -134,14 +135,20 @@ fn the_512th_booking_is_the_last() {
 #[test]
 fn beta2_goes_to_510() {
     let mut ws = vec![0; WORDS];
-    assert_eq!(open(&mut ws, 1, 1, 1, 510), (0, 0));
-    assert_eq!(open(&mut ws, 1, 1, 1, 511), (3, 0));
+    assert_eq!(open(&mut ws, 1, 1, 1, 510, 0), (0, 0));
+    assert_eq!(open(&mut ws, 1, 1, 1, 511, 0), (3, 0));
 }
 
 #[test]
 fn the_papers_setting_is_good() {
-    let Setting { k, a, beta1, beta2 } = Setting::PAPER;
-    assert_eq!([k, a, beta1, beta2], [10, 8, 11, 150]);
+    let Setting {
+        k,
+        a,
+        beta1,
+        beta2,
+        edition,
+    } = Setting::PAPER;
+    assert_eq!([k, a, beta1, beta2, edition], [10, 8, 11, 150, 0]);
     opened(k, a, beta1, beta2);
 }
 

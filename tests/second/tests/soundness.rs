@@ -71,10 +71,34 @@ fn header() {
     breaks(2, 0, Broken::SettingBad, |ws| ws[BETA1] = 0);
     breaks(2, 0, Broken::SettingBad, |ws| ws[BETA1] = 3);
     breaks(2, 0, Broken::SettingBad, |ws| ws[BETA2] = 511);
-    breaks(2, 0, Broken::HeaderRestNotZero, |ws| ws[REST] = 1);
-    breaks(2, 0, Broken::HeaderRestNotZero, |ws| ws[REST + 1] = 65535);
+    for edition in [2, 3, 256, 257, 65535] {
+        breaks(2, 0, Broken::EditionOutside, |ws| ws[EDITION] = edition);
+    }
+    for rest in [1, 2, 256, 65535] {
+        breaks(2, 0, Broken::HeaderRestNotZero, |ws| ws[REST] = rest);
+    }
     keeps(|ws| ws[A] = 3);
     keeps(|ws| ws[BETA2] = 510);
+    // The words of a ledger of one edition are sound in the other.
+    keeps(|ws| ws[EDITION] = 1);
+    // The last word is no edition, whatever the edition is.
+    breaks(2, 0, Broken::HeaderRestNotZero, |ws| {
+        ws[EDITION] = 1;
+        ws[REST] = 1;
+    });
+    let both = [
+        (Header, Broken::EditionOutside),
+        (Header, Broken::HeaderRestNotZero),
+    ];
+    breaks_all(2, 0, &both, |ws| ws[EDITION..HEADER_WORDS].fill(2));
+    let bad_too = [
+        (Header, Broken::SettingBad),
+        (Header, Broken::EditionOutside),
+    ];
+    breaks_all(2, 0, &bad_too, |ws| {
+        ws[A] = 1;
+        ws[EDITION] = 2;
+    });
 
     // With no booking at all p has no room either.
     let none = [
@@ -394,6 +418,23 @@ fn bounds_by_chits() {
         (Slot(8), Broken::CounterAboveChits),
     ];
     breaks_all(15, 8, &both, |ws| ws[entry(8) + COUNTER] = 4);
+}
+
+/// A counter that starts at 1 is within the bound, since the poll that starts
+/// it is a chit.
+#[test]
+fn ledgers_of_the_later_edition_are_sound() {
+    for count in 0..5 {
+        assert_eq!(judge(&run_polled_in(1, count)), Damage::default());
+    }
+    let mut ws = opened_in(1, 1, 1, 1, 2);
+    must_book(&mut ws, 1, 7, &[0]);
+    must_book(&mut ws, 2, 7, &[0]);
+    must_poll(&mut ws, 2, &[1]);
+    assert_eq!(entry_words(&ws, 7), [2, 2, 1, 2]);
+    assert_eq!(judge(&ws), Damage::default());
+    ws[entry(7) + COUNTER] = 2;
+    refused_by(15, 7, Broken::CounterAboveChits, &ws);
 }
 
 #[test]

@@ -3,6 +3,7 @@
 use second::command::{parse, Command};
 use second::console::run;
 use second::ledger::Reading;
+use second::setting::Setting;
 
 fn prints(input: &str, output: &str) {
     let printed = String::from_utf8(run(input.as_bytes())).unwrap();
@@ -16,6 +17,21 @@ fn is_bad(line: &[u8]) {
 
 fn is_said(line: &str, command: Command) {
     assert_eq!(parse(line.as_bytes()), Some(command));
+}
+
+/// An opening with these numbers, the edition last.
+fn opens(line: &str, numbers: [u16; 5]) {
+    let [k, a, beta1, beta2, edition] = numbers;
+    is_said(
+        line,
+        Command::Open(Setting {
+            k,
+            a,
+            beta1,
+            beta2,
+            edition,
+        }),
+    );
 }
 
 fn votes(line: &str, bytes: &[u8]) {
@@ -42,6 +58,34 @@ fn nothing_is_called_before_an_opening() {
     let calls = "book 0 0\npoll 0\nquery 0\naccepted 0\nlead 0\nconfidence 0\nsize 0\nlist\n";
     prints(calls, &"refused 2\n".repeat(8));
     prints("open 2 1 1 2\nlist\n", "refused 3\nrefused 2\n");
+}
+
+/// A fifth number is the edition: 0 and 1 are taken, every other up to 65535
+/// is refused, and the ledger stays.
+#[test]
+fn editions() {
+    for edition in ["", " 0", " 1", " 01"] {
+        prints(&format!("open 1 1 1 2{edition}\nsize 0\n"), "1\n");
+    }
+    for edition in [2, 3, 256, 257, 65535] {
+        prints(
+            &format!("open 1 1 1 2 1\nbook 1 7 0\nopen 1 1 1 2 {edition}\nsize 1\n"),
+            "refused 3\n2\n",
+        );
+    }
+    // P9 typed in either edition, and the edition left out.
+    for (edition, printed) in [("", "0\n"), (" 0", "0\n"), (" 1", "1\n")] {
+        let opening = format!("open 1 1 1 2{edition}\n");
+        prints(
+            &format!("{opening}book 1 7 0\nbook 2 8 1\npoll 1 1\naccepted 1\n"),
+            printed,
+        );
+    }
+    // An opening with four numbers forgets the edition before it.
+    prints(
+        "open 1 1 1 2 1\nopen 1 1 1 2\nbook 1 7 0\npoll 1 1\naccepted 1\n",
+        "0\n",
+    );
 }
 
 /// A refused opening leaves the ledger, a taken one starts afresh.
@@ -76,12 +120,15 @@ fn words_are_small_letters() {
 
 #[test]
 fn words_have_their_numbers() {
-    is_said("open 1 2 3 4", Command::Open([1, 2, 3, 4]));
+    opens("open 1 2 3 4", [1, 2, 3, 4, 0]);
+    opens("open 1 2 3 4 5", [1, 2, 3, 4, 5]);
     is_said("list", Command::List);
     for line in [
         "open",
         "open 1 2 3",
-        "open 1 2 3 4 5",
+        "open 1 2 3 4 5 6",
+        "open 1 2 3 4 1 1",
+        "open 1 2 3 4 5 6 7",
         "book",
         "book 1",
         "poll",
@@ -110,11 +157,19 @@ fn numbers_are_one_to_twenty_digits() {
 
 #[test]
 fn settings_and_slots_go_to_65535() {
-    is_said(
+    opens(
         "open 65535 0 00000000000000000001 65535",
-        Command::Open([65535, 0, 1, 65535]),
+        [65535, 0, 1, 65535, 0],
     );
     is_bad(b"open 1 1 1 65536");
+    opens("open 1 1 1 1 65535", [1, 1, 1, 1, 65535]);
+    opens("open 1 1 1 1 00000000000000000001", [1, 1, 1, 1, 1]);
+    for edition in ["65536", "65537", "-1", "+1", "000000000000000000001", "x"] {
+        is_bad(format!("open 1 1 1 1 {edition}").as_bytes());
+    }
+    is_bad(b"open 1 1 1 1 ");
+    is_bad(b"open 1 1 1 1  1");
+    is_bad(b"open 1 1 1 1 1 ");
     is_bad(b"book 1 65536 0");
     is_bad(b"book 1 -1 0");
     prints("open 1 1 1 1\nbook 1 65535 0\n", "refused 5\n");
@@ -161,6 +216,8 @@ fn lists_may_be_empty() {
 fn a_bad_line_comes_before_refusals() {
     prints("poll 77 128\n", "bad line\n");
     prints("open 2 1 1 65536\n", "bad line\n");
+    prints("open 2 1 1 2 65536\n", "bad line\n");
+    prints("open 2 1 1 2 2 0\n", "bad line\n");
 }
 
 #[test]

@@ -12,11 +12,11 @@ entry-of-requires c κs = search needs
 header-requires : tie.Need-header-requires
 header-requires c κs = search needs
 
-entry-of-requires-2 : tie.Need-entry-of-requires-2
-entry-of-requires-2 c κs = search needs
+has-enough-requires : tie.Need-has-enough-requires
+has-enough-requires c κs = search needs
 
 returns : tie.Need-returns
-returns c = rw (c .before .before .before .first-unmarked .ensures, c .before .before .entry-of .ensures, c .before .header .ensures, c .entry-of2 .ensures)
+returns c = rw (c .before .before .before .first-unmarked .ensures, c .before .before .entry-of .ensures, c .has-enough .ensures, c .before .header .ensures)
 
 pub first-arm-spec : {M : Type 1} → statement M
 first-arm-spec =
@@ -25,5 +25,5 @@ first-arm-spec =
     first-unmarked-requires
     entry-of-requires
     header-requires
-    entry-of-requires-2
+    has-enough-requires
     returns)

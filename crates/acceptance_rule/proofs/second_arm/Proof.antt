@@ -12,13 +12,13 @@ is-last-requires c κs = search needs
 header-requires : tie.Need-header-requires
 header-requires c κs = search needs
 
-entry-of-requires : tie.Need-entry-of-requires
-entry-of-requires c κs = search needs
+has-enough-requires : tie.Need-has-enough-requires
+has-enough-requires c κs = search needs
 
 returns : tie.Need-returns
-returns c = rw (c .before .before .before .is-preferred .ensures, c .before .before .is-last .ensures, c .before .header .ensures, c .entry-of .ensures)
+returns c = rw (c .before .before .before .is-preferred .ensures, c .before .before .is-last .ensures, c .has-enough .ensures, c .before .header .ensures)
 
 pub second-arm-spec : {M : Type 1} → statement M
 second-arm-spec =
     tie.close
-    (tie.spec is-preferred-requires is-last-requires header-requires entry-of-requires returns)
+    (tie.spec is-preferred-requires is-last-requires header-requires has-enough-requires returns)

@@ -21,19 +21,19 @@ use Rattle.day_judge.proofs.bookings_end.Statement.{statement}
 use Rattle.day_judge.proofs.bookings_end.Tie as tie
 
 abbrev test : List ℕ → ℕ → ℕ → Bool
-test file count = bookingPasses (readMany readBooking count (drop 12 file) .value)
+test sections count = bookingPasses (readMany readBooking count (drop 2 sections) .value)
 
 abbrev Inv-loop : tie.InvT-loop
-Inv-loop file count filter₀ at₀ j₀ filter at j =
-    (j ≤ count) × Walked file j at × (filter ≡ namesNoted (nameRead (drop 12 file)) (j + 1)) × Searched (λ k. not (test file count k)) count j
+Inv-loop sections count filter₀ at₀ j₀ filter at j =
+    (j ≤ count) × Walked sections j at × (filter ≡ namesNoted (nameRead (drop 2 sections)) (j + 1)) × Searched (λ k. not (test sections count k)) count j
 
 abbrev μ-loop : tie.MeasureT-loop
-μ-loop file count filter₀ at₀ j₀ filter at j = count - j
+μ-loop sections count filter₀ at₀ j₀ filter at j = count - j
 
 loop-holds : tie.Need-loop-holds Inv-loop μ-loop
 loop-holds c =
     let S = c .before .before in
-    (omega arith, walked-none (S .args .file .now) (S .pre .0), S .pre .2, search-start _ _)
+    (omega arith, walked-none (S .args .sections .now) (S .pre .0), S .pre .2, search-start _ _)
 
 row-end-requires : tie.Need-row-end-requires Inv-loop μ-loop
 row-end-requires c κs = (c .before .loop .inv .1 .within, omega arith)
@@ -42,12 +42,12 @@ row-end-requires c κs = (c .before .loop .inv .1 .within, omega arith)
 same-long : (L : tie.At-loop Inv-loop μ-loop) → length (L .loop .filter) ≡ length (L .before .before .before .args .filter .now)
 same-long L =
     let S = L .before .before .before in
-    let names = nameRead (drop 12 (S .args .file .now)) in
+    let names = nameRead (drop 2 (S .args .sections .now)) in
     ap length (L .loop .inv .2) ∙ namesNoted-length names (L .loop .j + 1) ∙ sym (ap length (S .pre .2) ∙ namesNoted-length names 1)
 
 -- not good: 0
-refused : (file : List ℕ) (n : ℕ) → (BookingsGood (drop 12 file) n → ⊥) → BookingsJudged file n 0
-refused file n h = record { good = λ d. absurd (d refl); bad = λ e. h }
+refused : (sections : List ℕ) (n : ℕ) → (BookingsGood (drop 2 sections) n → ⊥) → BookingsJudged sections n 0
+refused sections n h = record { good = λ d. absurd (d refl); bad = λ e. h }
 
 -- the booking after j others
 module _ (R : tie.After-row-end Inv-loop μ-loop) where
@@ -57,8 +57,8 @@ module _ (R : tie.After-row-end Inv-loop μ-loop) where
   abbrev S : tie.Start Inv-loop μ-loop
   S = L .before .before .before
 
-  abbrev file : List ℕ
-  file = S .args .file .now
+  abbrev sections : List ℕ
+  sections = S .args .sections .now
 
   abbrev count : ℕ
   count = S .args .count
@@ -75,10 +75,10 @@ same-length c = same-long (L (c .before))
 bad-row : tie.Need-returns Inv-loop μ-loop
 bad-row c =
     let R = c .before in
-    refused (file R) (count R) (row-refused (file R) (count R) (j R) (at R) (omega arith) (L R .loop .inv .1) _ (c .if1 .taken) (R .row-end .ensures))
+    refused (sections R) (count R) (row-refused (sections R) (count R) (j R) (at R) (omega arith) (L R .loop .inv .1) _ (c .if1 .taken) (R .row-end .ensures))
 
 -- it ends where it was told
-ends : (c : tie.Else1 Inv-loop μ-loop) → let R = c .before in RowEnds (file R) (at R) (j R) (R .row-end .result)
+ends : (c : tie.Else1 Inv-loop μ-loop) → let R = c .before in RowEnds (sections R) (at R) (j R) (R .row-end .result)
 ends c = c .before .row-end .ensures .good (c .if1 .left)
 
 name-at-requires : tie.Need-name-at-requires Inv-loop μ-loop
@@ -110,7 +110,7 @@ taken-name : tie.Need-returns-2 Inv-loop μ-loop
 taken-name c =
     let W = c .before .before .before in
     let Q = R W in
-    refused (file Q) (count Q) (name-refused (file Q) (count Q) (j Q) (at Q) (omega arith) (L Q .loop .inv .1) (name W) (small W) (N W .name-at .ensures)
+    refused (sections Q) (count Q) (name-refused (sections Q) (count Q) (j Q) (at Q) (omega arith) (L Q .loop .inv .1) (name W) (small W) (N W .name-at .ensures)
     (not-false _ (sym (W .enter-name .ensures .0) ∙ not-true (W .enter-name .result) (c .if2 .taken))))
 
 add-j : tie.Need-add-j Inv-loop μ-loop
@@ -125,14 +125,14 @@ loop-again c =
     let Q = R W in
     let T = L Q .loop in
     let row = ends (N W .before) in
-    let names = nameRead (drop 12 (file Q)) in
+    let names = nameRead (drop 2 (sections Q)) in
     let free = sym (W .enter-name .ensures .0) ∙ not-false (W .enter-name .result) (c .if2 .left) in (
       omega arith,
-      walked-more (file Q) (count Q) (j Q) (at Q) (omega arith) (T .inv .1) (name W) (small W) (N W .name-at .ensures) _ row,
-      W .enter-name .ensures .1 ∙ ap₂ withNoted (sym (name-is (file Q) (at Q) (j Q) (T .inv .1 .there) (name W) (small W) (N W .name-at .ensures))) (T .inv .2) ∙ sym (namesNoted-more names (j Q + 1)),
+      walked-more (sections Q) (count Q) (j Q) (at Q) (omega arith) (T .inv .1) (name W) (small W) (N W .name-at .ensures) _ row,
+      W .enter-name .ensures .1 ∙ ap₂ withNoted (sym (name-is (sections Q) (at Q) (j Q) (T .inv .1 .there) (name W) (small W) (N W .name-at .ensures))) (T .inv .2) ∙ sym (namesNoted-more names (j Q + 1)),
       search-miss _ _ _ (T .inv .3) (omega arith)
-          (ap not (next-rules (file Q) (count Q) (j Q) (at Q) (omega arith) (T .inv .1) (name W) (small W) (N W .name-at .ensures)
-          ∙ and-both (not (isNamed (drop 12 (file Q)) (j Q + 1) (name W))) (rowGood (j Q) (bookingFrom (file Q) (at Q))) free (row .rules))),
+          (ap not (next-rules (sections Q) (count Q) (j Q) (at Q) (omega arith) (T .inv .1) (name W) (small W) (N W .name-at .ensures)
+          ∙ and-both (not (isNamed (drop 2 (sections Q)) (j Q + 1) (name W))) (rowGood (j Q) (bookingFrom (sections Q) (at Q))) free (row .rules))),
     )
 
 same-length-3 : tie.Need-same-length-3 Inv-loop μ-loop
@@ -143,7 +143,7 @@ all-good c =
     let T = c .before .loop in
     let S = c .before .before .before .before .args in
     let end : T .j ≡ S .count = omega arith in
-    let walked : Walked (S .file .now) (S .count) (T .at) = rw end at (T .inv .1) in
+    let walked : Walked (S .sections .now) (S .count) (T .at) = rw end at (T .inv .1) in
     record {
       good = λ d. record {
         good = record { laid = walked .laid; rules = eq-eqb _ _ (search-over _ _ _ (T .inv .3) (omega arith) ∙ end) };

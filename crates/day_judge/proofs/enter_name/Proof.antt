@@ -29,7 +29,7 @@ not-noted c =
     let T = c .before .before .before in
     let S = T .before .before .before .before in
     let asked = rw (S .pre .2) at (T .note .ensures .0) in
-    (sym (ap not (isNoted-new (nameRead (drop 12 (S .args .file .now))) (S .args .j + 1) (S .args .name) (sym asked ∙ c .if1 .left))), T .note .ensures .1)
+    (sym (ap not (isNoted-new (nameRead (drop 2 (S .args .sections .now))) (S .args .j + 1) (S .args .name) (sym asked ∙ c .if1 .left))), T .note .ensures .1)
 
 pub enter-name-spec : {M : Type 1} → statement M
 enter-name-spec =

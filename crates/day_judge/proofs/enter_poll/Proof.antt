@@ -38,12 +38,12 @@ told c =
     let O = I .before .before in
     let N = O .before in
     let S = N .before .before .before .args in
-    let file = S .file .now in
+    let sections = S .sections .now in
     let i = N .number-at .result in
     let o = O .number-at2 .result in
-    let l = drop (S .at) file in
-    let a = drop (S .at + 2) file in
-    let b = drop (S .at + 2 + 2) file in (
+    let l = drop (S .at) sections in
+    let a = drop (S .at + 2) sections in
+    let b = drop (S .at + 2 + 2) sections in (
       poll-decides l a b i o (search needs) (search needs) (N .number-at .ensures) (O .number-at2 .ensures) (S .most) (S .seen .now) _
           (ap (λ (t : Bool). not (eqb i 0) && leb i (S .most) && not t && leb o 1) (I .is-set .ensures)),
       B .set-bit .ensures ∙ ap (λ (x : ℕ). withBit x (S .seen .now)) (sym (poll-booking l a b i o (search needs) (search needs) (N .number-at .ensures) (O .number-at2 .ensures))),

@@ -1,4 +1,4 @@
--- The bits set are the numbers of the polls before q; each of these is by the rules, and their bytes are the file's.
+-- The bits set are the numbers of the polls before q; each of these is by the rules, and their bytes are there.
 use Prim.Native.Nat.{ℕ, _+_, _*_, _-_, _<_, _≤_}
 use mathlib.Core.Path.{_≡_, sym, ap, ap₂, _∙_}
 use mathlib.Core.Bool.{not}
@@ -26,21 +26,21 @@ use Rattle.day_judge.proofs.polls_good.Tie as tie
 
 -- the polls of the section, so many of them
 abbrev pollsAt : List ℕ → ℕ → ℕ → List DayPoll
-pollsAt file start polls = readMany readPoll polls (drop start file) .value
+pollsAt sections start polls = readMany readPoll polls (drop start sections) .value
 
 abbrev Inv-loop : tie.InvT-loop
-Inv-loop file at most seen₀ polls start q₀ seen q =
-    (q ≤ polls) × (seen ≡ setBelow (polledIn (pollsAt file (at + 2) polls)) q) × HoldsMany pollBytes readPoll q (drop (at + 2) file)
-    × Searched (λ k. not (pollPasses most (pollsAt file (at + 2) polls) k)) polls q
+Inv-loop sections at most seen₀ polls start q₀ seen q =
+    (q ≤ polls) × (seen ≡ setBelow (polledIn (pollsAt sections (at + 2) polls)) q) × HoldsMany pollBytes readPoll q (drop (at + 2) sections)
+    × Searched (λ k. not (pollPasses most (pollsAt sections (at + 2) polls) k)) polls q
 
 abbrev μ-loop : tie.MeasureT-loop
-μ-loop file at most seen₀ polls start q₀ seen q = polls - q
+μ-loop sections at most seen₀ polls start q₀ seen q = polls - q
 
 sub-if1 : tie.Need-sub-if1 Inv-loop μ-loop
 sub-if1 c = search needs
 
 short : tie.Need-returns Inv-loop μ-loop
-short c = let S = c .before .before .before .args in denied (λ claim. omega (arith, polls-short (S .most) (drop (S .at) (S .file .now)) claim, length-drop (S .at) (S .file .now)))
+short c = let S = c .before .before .before .args in denied (λ claim. omega (arith, polls-short (S .most) (drop (S .at) (S .sections .now)) claim, length-drop (S .at) (S .sections .now)))
 
 number-at-requires : tie.Need-number-at-requires Inv-loop μ-loop
 number-at-requires c κs = search needs
@@ -62,8 +62,8 @@ module _ (N : tie.After-number-at Inv-loop μ-loop) where
   abbrev S : tie.Start Inv-loop μ-loop
   S = N .before .before .before .before
 
-  abbrev file : List ℕ
-  file = S .args .file .now
+  abbrev sections : List ℕ
+  sections = S .args .sections .now
 
   abbrev at : ℕ
   at = S .args .at
@@ -72,7 +72,7 @@ module _ (N : tie.After-number-at Inv-loop μ-loop) where
   p = N .number-at .result
 
   abbrev polls : List DayPoll
-  polls = pollsAt file (at + 2) p
+  polls = pollsAt sections (at + 2) p
 
   small : p < 65536
   small = search needs
@@ -80,12 +80,12 @@ module _ (N : tie.After-number-at Inv-loop μ-loop) where
 wrong-length : tie.Need-returns-2 Inv-loop μ-loop
 wrong-length c =
     let N = c .before in
-    denied (λ claim. omega (arith, polls-end (file N) (at N) (p N) (small N) (N .number-at .ensures) (S N .args .most) claim (omega arith)))
+    denied (λ claim. omega (arith, polls-end (sections N) (at N) (p N) (small N) (N .number-at .ensures) (S N .args .most) claim (omega arith)))
 
 loop-holds : tie.Need-loop-holds Inv-loop μ-loop
 loop-holds c =
     let N = c .before in
-    (omega arith, S N .pre .2 ∙ sym (setBelow-zero (polledIn (polls N))), holds-none pollBytes readPoll poll-leaves (drop (at N + 2) (file N)), search-start _ _)
+    (omega arith, S N .pre .2 ∙ sym (setBelow-zero (polledIn (polls N))), holds-none pollBytes readPoll poll-leaves (drop (at N + 2) (sections N)), search-start _ _)
 
 mul-enter-poll : tie.Need-mul-enter-poll Inv-loop μ-loop
 mul-enter-poll c = omega arith
@@ -114,10 +114,10 @@ module _ (G : tie.After-enter-poll Inv-loop μ-loop) where
   q = L .loop .q
 
   -- its test is the law's
-  tests : pollTest (S N .args .most) (L .loop .seen) (readPoll (drop (at N + 2 + 4 * q) (file N)) .value) ≡ pollPasses (S N .args .most) (polls N) q
+  tests : pollTest (S N .args .most) (L .loop .seen) (readPoll (drop (at N + 2 + 4 * q) (sections N)) .value) ≡ pollPasses (S N .args .most) (polls N) q
   tests =
-      ap (λ m. pollTest (S N .args .most) m (readPoll (drop (at N + 2 + 4 * q) (file N)) .value)) (L .loop .inv .1)
-      ∙ poll-rules (file N) (at N) (p N) (small N) (N .number-at .ensures) (S N .args .most) q (omega arith) (omega arith)
+      ap (λ m. pollTest (S N .args .most) m (readPoll (drop (at N + 2 + 4 * q) (sections N)) .value)) (L .loop .inv .1)
+      ∙ poll-rules (sections N) (at N) (p N) (small N) (N .number-at .ensures) (S N .args .most) q (omega arith) (omega arith)
 
 same-length : tie.Need-same-length Inv-loop μ-loop
 same-length c =
@@ -129,8 +129,8 @@ bad-poll c =
     let G = c .before .before .before in
     let M = N G in
     denied (λ claim. G .enter-poll .ensures .0 .no (not-true (G .enter-poll .result) (c .if3 .taken)) (record {
-      laid = polls-row (file M) (at M) (p M) (small M) (M .number-at .ensures) (S M .args .most) claim (q G) (omega arith);
-      rules = tests G ∙ polls-rule (file M) (at M) (p M) (small M) (M .number-at .ensures) (S M .args .most) claim (q G) (omega arith);
+      laid = polls-row (sections M) (at M) (p M) (small M) (M .number-at .ensures) (S M .args .most) claim (q G) (omega arith);
+      rules = tests G ∙ polls-rule (sections M) (at M) (p M) (small M) (M .number-at .ensures) (S M .args .most) claim (q G) (omega arith);
     }))
 
 add-q : tie.Need-add-q Inv-loop μ-loop
@@ -147,10 +147,10 @@ loop-again c =
     let numbers = polledIn (polls M) in (
       omega arith,
       G .enter-poll .ensures .1
-          ∙ ap₂ withBit (sym (ap (λ (x : DayPoll). x .booking) (poll-at (file M) (at M) (p M) (small M) (M .number-at .ensures) (q G) (omega arith)))) (L G .loop .inv .1)
+          ∙ ap₂ withBit (sym (ap (λ (x : DayPoll). x .booking) (poll-at (sections M) (at M) (p M) (small M) (M .number-at .ensures) (q G) (omega arith)))) (L G .loop .inv .1)
           ∙ sym (setBelow-more numbers (q G)),
-      holds-more pollBytes readPoll poll-leaves (q G) (drop (at M + 2) (file M)) (L G .loop .inv .2)
-          (rw (← poll-there (file M) (at M) (p M) (small M) (M .number-at .ensures) (q G)) at (good .laid)),
+      holds-more pollBytes readPoll poll-leaves (q G) (drop (at M + 2) (sections M)) (L G .loop .inv .2)
+          (rw (← poll-there (sections M) (at M) (p M) (small M) (M .number-at .ensures) (q G)) at (good .laid)),
       search-miss _ _ _ (L G .loop .inv .3) (omega arith) (ap not (sym (tests G) ∙ good .rules)),
     )
 
@@ -163,7 +163,7 @@ all-good c =
     let M = L .before .before in
     let end : L .loop .q ≡ p M = omega arith in
     affirmed
-    (polls-whole (file M) (at M) (p M) (small M) (M .number-at .ensures) (S M .args .most) (rw end at (L .loop .inv .2))
+    (polls-whole (sections M) (at M) (p M) (small M) (M .number-at .ensures) (S M .args .most) (rw end at (L .loop .inv .2))
     (eq-eqb _ _ (search-over _ _ _ (L .loop .inv .3) (omega arith) ∙ end)) (omega arith))
 
 pub polls-good-spec : {M : Type 1} → statement M

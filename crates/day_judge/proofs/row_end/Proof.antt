@@ -17,7 +17,7 @@ sub-if1 : tie.Need-sub-if1
 sub-if1 c = search needs
 
 short : tie.Need-returns
-short c = let S = c .before .before .args in row-short (S .file .now) (S .at) (S .j) (omega arith)
+short c = let S = c .before .before .args in row-short (S .sections .now) (S .at) (S .j) (omega arith)
 
 add-number-at : tie.Need-add-number-at
 add-number-at c = search needs
@@ -45,8 +45,8 @@ module _ (F : tie.After-fields-good) where
   abbrev S : tie.Start
   S = N .before .before .before .before
 
-  abbrev file : List ℕ
-  file = S .args .file .now
+  abbrev sections : List ℕ
+  sections = S .args .sections .now
 
   abbrev at : ℕ
   at = S .args .at
@@ -63,7 +63,7 @@ module _ (F : tie.After-fields-good) where
 bad-fields : tie.Need-returns-2
 bad-fields c =
     let F = c .before in
-    row-fields (file F) (at F) (j F) (slot F) (count F) (search needs) (search needs) (N F .before .number-at .ensures) (N F .number-at2 .ensures) (sym (F .fields-good .ensures) ∙ not-true (F .fields-good .result) (c .if2 .taken))
+    row-fields (sections F) (at F) (j F) (slot F) (count F) (search needs) (search needs) (N F .before .number-at .ensures) (N F .number-at2 .ensures) (sym (F .fields-good .ensures) ∙ not-true (F .fields-good .result) (c .if2 .taken))
 
 add-end : tie.Need-add-end
 add-end c = search needs
@@ -77,7 +77,7 @@ add-end-2 c = search needs
 no-room : tie.Need-returns-3
 no-room c =
     let F = c .before .before in
-    row-room (file F) (at F) (j F) (slot F) (count F) (search needs) (search needs) (N F .before .number-at .ensures) (N F .number-at2 .ensures) (omega arith)
+    row-room (sections F) (at F) (j F) (slot F) (count F) (search needs) (search needs) (N F .before .number-at .ensures) (N F .number-at2 .ensures) (omega arith)
 
 add-parents-at : tie.Need-add-parents-at
 add-parents-at c = search needs
@@ -104,7 +104,7 @@ bad-parents c =
     let G = c .before in
     let P = G .before .before in
     let F = P .before .before .before in
-    row-parents (file F) (at F) (j F) (slot F) (count F) (search needs) (search needs) (N F .before .number-at .ensures) (N F .number-at2 .ensures)
+    row-parents (sections F) (at F) (j F) (slot F) (count F) (search needs) (search needs) (N F .before .number-at .ensures) (N F .number-at2 .ensures)
     (P .parents-at .result) (P .parents-at .ensures .0) (fields (P .before .before)) (sym (G .parents-good .ensures) ∙ not-true (G .parents-good .result) (c .if4 .taken))
 
 good : tie.Need-returns-5
@@ -112,7 +112,7 @@ good c =
     let G = c .before in
     let P = G .before .before in
     let F = P .before .before .before in
-    row-ends (file F) (at F) (j F) (slot F) (count F) (search needs) (search needs) (N F .before .number-at .ensures) (N F .number-at2 .ensures)
+    row-ends (sections F) (at F) (j F) (slot F) (count F) (search needs) (search needs) (N F .before .number-at .ensures) (N F .number-at2 .ensures)
     (P .parents-at .result) (P .parents-at .ensures .0) (fields (P .before .before)) (P .parents-at .ensures .1) (sym (G .parents-good .ensures) ∙ not-false (G .parents-good .result) (c .if4 .left)) (omega arith)
 
 pub row-end-spec : {M : Type 1} → statement M

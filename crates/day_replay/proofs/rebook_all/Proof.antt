@@ -2,22 +2,22 @@
 use mathlib.Core.Path.{_≡_, refl}
 use mathlib.Core.Bool.{true}
 use mathlib.Core.List.{List}
-use Prim.Native.Nat.{ℕ, _-_}
+use Prim.Native.Nat.{ℕ, _+_, _-_}
 use native.Mathlib.Omega.{arith}
 use lib.ListN.{length}
 use borrow.Author.Needs.{needs}
 use Rattle.day_file.specs.Decode.{decode}
 use Rattle.day_file.specs.Replay.{goodFile}
-use Rattle.day_replay.proofs.GoodFile.{Booking, file-least, booking-first, booking-able, booking-more, booking-over}
+use Rattle.day_replay.proofs.GoodFile.{Booking, booking-room, booking-first, booking-able, booking-more, booking-over}
 use Rattle.day_replay.proofs.rebook_all.Statement.{statement}
 use Rattle.day_replay.proofs.rebook_all.Tie as tie
 
 abbrev Inv-loop : tie.InvT-loop
-Inv-loop w₀ file count at₀ j₀ w at j =
+Inv-loop w₀ file start count at₀ j₀ w at j =
     (length w ≡ length w₀) × Booking file w at j
 
 abbrev μ-loop : tie.MeasureT-loop
-μ-loop w₀ file count at₀ j₀ w at j = count - j
+μ-loop w₀ file start count at₀ j₀ w at j = count - j
 
 -- ---- what is known once the count is read
 
@@ -34,16 +34,19 @@ module _ (W : tie.After-wide Inv-loop μ-loop) where
   abbrev number : ℕ
   number = W .before .number-at .result
 
-  first : (W .wide .result ≡ length (decode file .bookings)) × Booking file (start .args .w .now) 12 0
-  first = booking-first file good number (search needs) (W .wide .ensures .0) (W .before .number-at .ensures) (start .pre .0)
+  first : (W .wide .result ≡ length (decode file .bookings)) × Booking file (start .args .w .now) (start .args .start + 2) 0
+  first = booking-first file good (start .args .start) (start .pre .2) number (search needs) (W .wide .ensures .0) (W .before .number-at .ensures) (start .pre .0)
 
 -- ---- the needs
 
 number-at-requires : tie.Need-number-at-requires Inv-loop μ-loop
-number-at-requires c κs = let S = c .before .before in omega (arith, file-least (S .args .file .now) (S .pre .1))
+number-at-requires c κs = let S = c .before .before in booking-room (S .args .file .now) (S .pre .1) (S .args .start) (S .pre .2)
 
 wide-requires : tie.Need-wide-requires Inv-loop μ-loop
 wide-requires c κs = search needs
+
+add-at : tie.Need-add-at Inv-loop μ-loop
+add-at c = let S = start c in omega (arith, booking-room (file c) (good c) (S .args .start) (S .pre .2), S .good)
 
 loop-holds : tie.Need-loop-holds Inv-loop μ-loop
 loop-holds c = (refl, first c .1)
@@ -84,6 +87,7 @@ rebook-all-spec =
     μ-loop
     number-at-requires
     wide-requires
+    add-at
     loop-holds
     rebook-requires
     add-j

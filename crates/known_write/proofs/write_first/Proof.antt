@@ -11,9 +11,10 @@ use mir.ValLaws.{toZ-pos}
 use borrow.Author.Needs.{needs}
 use Rattle.terms.specs.declared.answer.Answer.the-variants.{Taken}
 use Rattle.terms.specs.Answers.{handover}
+use Rattle.rules.specs.Layout.{settingIn}
 use Rattle.put.proofs.Puts.{around}
 use Rattle.day_file.specs.Bytes.{dayFile}
-use Rattle.day_file.proofs.Lengths.{length-dayFile, dayFile-most}
+use Rattle.day_file.proofs.Lengths.{editionLength-most, length-dayFile, dayFile-most}
 use Rattle.known_write.proofs.Written.{short, taken, room-first, after-first, room-second, after-second, room-third, all-laid}
 use Rattle.known_write.proofs.write_first.Statement.{statement}
 use Rattle.known_write.proofs.write_first.Tie as tie
@@ -122,7 +123,7 @@ written c =
     let R = roomy P in
     let counted = R .before .file-length .ensures in
     let value : toZ w64 (R .before .file-length .result) ≡ pos (length (dayFile (w R))) =
-    toZ-pos w64 _ (omega (arith, counted, dayFile-most (w R) (start R .pre))) ∙ ap pos counted in
+    toZ-pos w64 _ (omega (arith, counted, dayFile-most (w R) (start R .pre), editionLength-most (settingIn (w R) .edition))) ∙ ap pos counted in
     ap₂ (λ v l. handover (Taken v) (w R) l) value
     (all-laid (w R) (out R) (room R) (P .put-setting .ensures) (Q .put-bookings .ensures) (L .put-polls .ensures))
     ∙ taken (w R) (out R) (room R) (start R .pre)

@@ -40,11 +40,11 @@ pub fn refused(number: u32, value: i64, breaches: &[Breach], ws: &[u16]) {
 
     // Opening looks at none of it, and reading a file neither.
     let file = [0, 4, 0, 3, 0, 2, 0, 1, 0, 2, 0, 0, 0, 0];
-    assert_eq!(open(&mut after, 3, 1, 1, 2), (3, 0));
+    assert_eq!(open(&mut after, 3, 1, 1, 2, 0), (3, 0));
     assert_eq!(read_first(&mut after, &file[1..]), (17, 0));
     assert_eq!(after, ws);
     let mut read = after.clone();
-    assert_eq!(open(&mut after, 3, 2, 1, 2), (0, 0));
+    assert_eq!(open(&mut after, 3, 2, 1, 2, 0), (0, 0));
     assert_eq!(read_first(&mut read, &file), (0, 0));
     assert_eq!(after, opened(3, 2, 1, 2));
     assert_eq!(read, after);

@@ -18,10 +18,15 @@ pub const RUN_POLLS: &str = "poll 2 1 1 -1\n\
     poll 4 1 1 1\n\
     poll 1 1 1 0\n";
 
-/// A workspace opened with the setting.
+/// A workspace opened with the setting, in the first edition.
 pub fn opened(k: u16, a: u16, beta1: u16, beta2: u16) -> Vec<u16> {
+    opened_in(0, k, a, beta1, beta2)
+}
+
+/// The same in either edition.
+pub fn opened_in(edition: u16, k: u16, a: u16, beta1: u16, beta2: u16) -> Vec<u16> {
     let mut ws = vec![0; WORDS];
-    assert_eq!(words::open(&mut ws, k, a, beta1, beta2), (0, 0));
+    assert_eq!(words::open(&mut ws, k, a, beta1, beta2, edition), (0, 0));
     ws
 }
 
@@ -37,7 +42,11 @@ pub fn must_poll(ws: &mut [u16], name: u64, votes: &[u8]) {
 
 /// Run before any poll.
 pub fn run_booked() -> Vec<u16> {
-    let mut ws = opened(3, 2, 1, 2);
+    run_booked_in(0)
+}
+
+pub fn run_booked_in(edition: u16) -> Vec<u16> {
+    let mut ws = opened_in(edition, 3, 2, 1, 2);
     must_book(&mut ws, 1, 7, &[0]);
     must_book(&mut ws, 2, 7, &[0]);
     must_book(&mut ws, 3, 9, &[1]);
@@ -47,13 +56,17 @@ pub fn run_booked() -> Vec<u16> {
 
 /// Run after its first `count` polls.
 pub fn run_polled(count: usize) -> Vec<u16> {
+    run_polled_in(0, count)
+}
+
+pub fn run_polled_in(edition: u16, count: usize) -> Vec<u16> {
     let polls: [(u64, [u8; 3]); 4] = [
         (2, [1, 1, 255]),
         (3, [1, 0, 0]),
         (4, [1, 1, 1]),
         (1, [1, 1, 0]),
     ];
-    let mut ws = run_booked();
+    let mut ws = run_booked_in(edition);
     for (name, votes) in &polls[..count] {
         must_poll(&mut ws, *name, votes);
     }
@@ -91,6 +104,23 @@ pub fn chain(n: u64) -> Vec<u16> {
     let mut ws = opened(1, 1, 1, 2);
     for name in 1..n {
         must_book(&mut ws, name, 1 + (name as u16 - 1) % 255, &[name - 1]);
+    }
+    ws
+}
+
+/// The longest file that an edition has: a full ledger where every place for
+/// a parent is used and every booking was polled, the last one first, with
+/// success where the number is even.
+pub fn longest_in(edition: u16) -> Vec<u16> {
+    let name = |b: u64| if b == 0 { 0 } else { u64::MAX - b };
+    let mut ws = opened_in(edition, 1, 1, 1, 2);
+    for b in 1..512 {
+        let slot = 1 + (b as u16 - 1) % 255;
+        let parents: Vec<u64> = (0..b).rev().take(4).map(name).collect();
+        must_book(&mut ws, name(b), slot, &parents);
+    }
+    for b in (1..512).rev() {
+        must_poll(&mut ws, name(b), &[u8::from(b % 2 == 0)]);
     }
     ws
 }

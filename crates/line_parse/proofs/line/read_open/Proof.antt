@@ -1,12 +1,7 @@
--- Fewer than four numbers, more, or a word that is none make a bad line; four fill the array.
-use mathlib.Core.Path.{refl, sym, ap, _∙_}
-use borrow.Author.Tests.{lt-ltb, le-ltb}
+-- Fewer than four numbers, more than five, or a word that is none make a bad line; where the fifth is left out the array holds what stands for it.
+use mathlib.Core.Path.{ap, _∙_}
 use Rattle.line_parse.specs.declared.command.Command.the-variants.{Open}
-use Rattle.line_words.specs.Words.{wordsAfter}
-use Rattle.line_number.specs.Numbers.{shortMost}
-use Rattle.line_scan.specs.Lists.{openMost}
-use Rattle.line_parse.specs.Line.{settingTyped, openSays}
-use Rattle.line_scan.proofs.Leading.{leading-le, listed-whole}
+use Rattle.line_parse.proofs.Opening.{open-short, open-refused, open-few, open-told}
 use borrow.Author.Needs.{needs}
 use Rattle.line_parse.proofs.line.read_open.Statement.{statement}
 use Rattle.line_parse.proofs.line.read_open.Tie as tie
@@ -24,30 +19,21 @@ enum-told : tie.Need-enum-told
 enum-told c = search needs
 
 no-list : tie.Need-returns
-unfolding openSays
-no-list c = rw (sym (c .before .before .before .read-numbers .ensures .many) ∙ c .enum-told .given .1)
+no-list c = open-refused (c .before .before .before .read-numbers .ensures) (c .enum-told .given .1)
 
 too-few : tie.Need-returns-2
-unfolding openSays
 too-few c =
     let K = c .before .before in
-    rw (sym (K .before .before .before .read-numbers .ensures .many) ∙ K .count .given .1, lt-ltb _ openMost (c .if1 .taken))
+    open-few (K .before .before .before .read-numbers .ensures) _ (K .count .given .1) (c .if1 .taken)
 
 setting-of-requires : tie.Need-setting-of-requires
-setting-of-requires c κs i =
-    let K = c .before .before .before in
-    let R = K .before .before .before in
-    let S = R .before .before .before .args in
-    rw (listed-whole (R .read-numbers .ensures) _ (K .count .given .1) refl (c .before .if1 .left)) (leading-le shortMost openMost (wordsAfter (S .line .now) (S .at)) i)
+setting-of-requires c κs = open-short (c .before .before .before .before .before .before .read-numbers .ensures)
 
-opens : tie.Need-returns-3
-unfolding openSays
-opens c =
+told : tie.Need-returns-3
+told c =
     let T = c .before .before in
     let K = T .before .before in
-    let R = K .before .before .before in
-    let whole = listed-whole (R .read-numbers .ensures) _ (K .count .given .1) refl (T .if1 .left) in
-    rw (sym (R .read-numbers .ensures .many) ∙ K .count .given .1, le-ltb _ openMost (T .if1 .left)) (ap Open (c .setting-of .ensures ∙ ap settingTyped whole))
+    ap Open (c .setting-of .ensures) ∙ open-told (K .before .before .before .read-numbers .ensures) _ (K .count .given .1) (T .if1 .left)
 
 pub read-open-spec : {M : Type 1} → statement M
 read-open-spec =
@@ -60,4 +46,4 @@ read-open-spec =
     no-list
     too-few
     setting-of-requires
-    opens)
+    told)

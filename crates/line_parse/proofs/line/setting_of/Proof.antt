@@ -1,4 +1,4 @@
--- Each of the four is short, so none loses a bit.
+-- Each of the five is short, so none loses a bit.
 use native.Mathlib.Omega.{arith}
 use borrow.Author.Needs.{needs}
 use Rattle.line_parse.proofs.line.setting_of.Statement.{statement}
@@ -28,6 +28,12 @@ element-copy-out-t16 c = search needs
 cast-t17 : tie.Need-cast-t17
 cast-t17 c = omega (arith, c .before .before .before .before .pre 3)
 
+element-copy-out-t20 : tie.Need-element-copy-out-t20
+element-copy-out-t20 c = search needs
+
+cast-t21 : tie.Need-cast-t21
+cast-t21 c = omega (arith, c .before .before .before .before .before .pre 4)
+
 returns : tie.Need-returns
 returns c = search needs
 
@@ -43,4 +49,6 @@ setting-of-spec =
     cast-t13
     element-copy-out-t16
     cast-t17
+    element-copy-out-t20
+    cast-t21
     returns)

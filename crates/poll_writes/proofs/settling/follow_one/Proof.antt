@@ -1,4 +1,4 @@
--- The code's test is the definition's: the last booking of the slot counts on, another starts at 0.
+-- The code's test is the definition's: the last booking of the slot counts on, another starts where the edition says.
 use borrow.Author.Tests.{eq-eqb, ne-eqb}
 use borrow.Author.Needs.{needs}
 use Rattle.rules.specs.Poll.{follow}
@@ -19,6 +19,12 @@ add-set-entry c = search needs
 
 set-entry-requires : tie.Need-set-entry-requires
 set-entry-requires c κs = search needs
+
+header-requires : tie.Need-header-requires
+header-requires c κs = search needs
+
+restart-requires : tie.Need-restart-requires
+restart-requires c κs = search needs
 
 cast-set-entry : tie.Need-cast-set-entry
 cast-set-entry c = search needs
@@ -47,8 +53,9 @@ unfolding follow
 newly-last c =
     let S = c .before .before in
     let F = S .before .before .before .before in
-    let I = F .before .before in
-    simp (S .set-entry3 .ensures, F .set-entry2 .ensures, ← I .before .before .entry .ensures, ← I .before .wide .ensures .0, ne-eqb _ _ (I .if1 .left))
+    let R = F .before .before in
+    let I = R .before .before .before in
+    simp (S .set-entry3 .ensures, F .set-entry2 .ensures, R .restart .ensures, R .before .header .ensures, ← I .before .before .entry .ensures, ← I .before .wide .ensures .0, ne-eqb _ _ (I .if1 .left))
 
 pub follow-one-spec : {M : Type 1} → statement M
 follow-one-spec =
@@ -59,6 +66,8 @@ follow-one-spec =
     entry-requires-2
     add-set-entry
     set-entry-requires
+    header-requires
+    restart-requires
     cast-set-entry
     set-entry-requires-2
     set-entry-requires-3

@@ -25,18 +25,12 @@ is-good-requires c κs = search needs
 header-requires-3 : tie.Need-header-requires-3
 header-requires-3 c κs = search needs
 
-add-header : tie.Need-add-header
-add-header c = search needs
-
-header-requires-4 : tie.Need-header-requires-4
-header-requires-4 c κs = search needs
-
 returns : tie.Need-returns
 unfolding headerGood
 returns c =
-    let S = c .before .before .before in
+    let S = c .before .before in
     let H = S .before .before .before in
-    simp (H .wide .ensures .0, H .before .header .ensures, S .before .wide2 .ensures .0, S .before .before .header2 .ensures, c .before .before .is-good .ensures, S .setting .ensures, c .before .header3 .ensures, c .header4 .ensures)
+    simp (H .wide .ensures .0, H .before .header .ensures, S .before .wide2 .ensures .0, S .before .before .header2 .ensures, c .before .is-good .ensures, S .setting .ensures, c .header3 .ensures)
 
 pub header-good-spec : {M : Type 1} → statement M
 header-good-spec =
@@ -49,6 +43,4 @@ header-good-spec =
     setting-requires
     is-good-requires
     header-requires-3
-    add-header
-    header-requires-4
     returns)
