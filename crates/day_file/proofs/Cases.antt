@@ -25,7 +25,7 @@ use Rattle.rules.specs.Marks.{anotherMarked, markOne}
 use Rattle.rules.specs.Poll.{polled, raiseOne, prefer, follow, settleOne, clearOne}
 use Rattle.rules.specs.Calls.{openCall, bookBy, pollBy, bookCall, pollCall}
 use Rattle.rules.proofs.Same.{sameNumbers, Got, got, Passes, passes, sameTable, same-table}
-use Rattle.rules.proofs.Walk.{badRecordWalked, badSlotWalked, testWalked, test-walked-is}
+use Rattle.rules.proofs.Walk.{badRecordWalked, badSlotWalked, allZero, testWalked, test-walked-is}
 use Rattle.day_file.specs.Day.{Day, parentCount, holder, dayOf}
 use Rattle.day_file.specs.Bytes.{highFirst, joined, encode}
 use Rattle.day_file.specs.Decode.{valueOf, readMany, decode}
@@ -314,27 +314,27 @@ made test =
     }
 
 example-walked : Passes (sameTable (example (made testWalked)) exampleRows)
-unfolding example exampleRows decode valueOf readMany inOrder dayOf parentCount holder highFirst joined encode sameNumbers testWalked badRecordWalked badSlotWalked headerGood genesisGood bookingGood parentsGood stateGood markGood chits bookingsOf opened openWord lookUp hasUnknown hasTwice entered booked polled raiseOne prefer follow settleOne clearOne restart enough failureClears anotherMarked markOne ancestry sweep spread voteOf openCall upTo firstFrom total greatest from walkFrom
+unfolding example exampleRows decode valueOf readMany inOrder dayOf parentCount holder highFirst joined encode sameNumbers testWalked badRecordWalked badSlotWalked allZero headerGood genesisGood bookingGood parentsGood stateGood markGood chits bookingsOf opened openWord lookUp hasUnknown hasTwice entered booked polled raiseOne prefer follow settleOne clearOne restart enough failureClears anotherMarked markOne ancestry sweep spread voteOf openCall upTo firstFrom total greatest from walkFrom
 example-walked = tt
 
 second-walked : Passes (sameTable (second (made testWalked)) secondRows)
-unfolding second secondRows decode valueOf readMany inOrder dayOf parentCount holder highFirst joined encode sameNumbers testWalked badRecordWalked badSlotWalked headerGood genesisGood bookingGood parentsGood stateGood markGood chits bookingsOf opened openWord lookUp hasUnknown hasTwice entered booked polled raiseOne prefer follow settleOne clearOne restart enough failureClears anotherMarked markOne ancestry sweep spread voteOf openCall upTo firstFrom total greatest from walkFrom
+unfolding second secondRows decode valueOf readMany inOrder dayOf parentCount holder highFirst joined encode sameNumbers testWalked badRecordWalked badSlotWalked allZero headerGood genesisGood bookingGood parentsGood stateGood markGood chits bookingsOf opened openWord lookUp hasUnknown hasTwice entered booked polled raiseOne prefer follow settleOne clearOne restart enough failureClears anotherMarked markOne ancestry sweep spread voteOf openCall upTo firstFrom total greatest from walkFrom
 second-walked = tt
 
 late-walked : Passes (sameTable (late (made testWalked)) lateRows)
-unfolding late lateRows decode valueOf readMany inOrder dayOf parentCount holder highFirst joined encode sameNumbers testWalked badRecordWalked badSlotWalked headerGood genesisGood bookingGood parentsGood stateGood markGood chits bookingsOf opened openWord lookUp hasUnknown hasTwice entered booked polled raiseOne prefer follow settleOne clearOne restart enough failureClears anotherMarked markOne ancestry sweep spread voteOf openCall upTo firstFrom total greatest from walkFrom
+unfolding late lateRows decode valueOf readMany inOrder dayOf parentCount holder highFirst joined encode sameNumbers testWalked badRecordWalked badSlotWalked allZero headerGood genesisGood bookingGood parentsGood stateGood markGood chits bookingsOf opened openWord lookUp hasUnknown hasTwice entered booked polled raiseOne prefer follow settleOne clearOne restart enough failureClears anotherMarked markOne ancestry sweep spread voteOf openCall upTo firstFrom total greatest from walkFrom
 late-walked = tt
 
 alone-walked : Passes (sameTable (alone (made testWalked)) aloneRows)
-unfolding alone aloneRows decode valueOf readMany inOrder dayOf parentCount holder highFirst joined encode sameNumbers testWalked badRecordWalked badSlotWalked headerGood genesisGood bookingGood parentsGood stateGood markGood chits bookingsOf opened openWord lookUp hasUnknown hasTwice entered booked polled raiseOne prefer follow settleOne clearOne restart enough failureClears anotherMarked markOne ancestry sweep spread voteOf openCall upTo firstFrom total greatest from walkFrom
+unfolding alone aloneRows decode valueOf readMany inOrder dayOf parentCount holder highFirst joined encode sameNumbers testWalked badRecordWalked badSlotWalked allZero headerGood genesisGood bookingGood parentsGood stateGood markGood chits bookingsOf opened openWord lookUp hasUnknown hasTwice entered booked polled raiseOne prefer follow settleOne clearOne restart enough failureClears anotherMarked markOne ancestry sweep spread voteOf openCall upTo firstFrom total greatest from walkFrom
 alone-walked = tt
 
 later-walked : Passes (sameTable (later (made testWalked)) laterRows)
-unfolding later laterRows decode valueOf readMany inOrder dayOf parentCount holder highFirst joined encode sameNumbers testWalked badRecordWalked badSlotWalked headerGood genesisGood bookingGood parentsGood stateGood markGood chits bookingsOf opened openWord lookUp hasUnknown hasTwice entered booked polled raiseOne prefer follow settleOne clearOne restart enough failureClears anotherMarked markOne ancestry sweep spread voteOf openCall upTo firstFrom total greatest from walkFrom
+unfolding later laterRows decode valueOf readMany inOrder dayOf parentCount holder highFirst joined encode sameNumbers testWalked badRecordWalked badSlotWalked allZero headerGood genesisGood bookingGood parentsGood stateGood markGood chits bookingsOf opened openWord lookUp hasUnknown hasTwice entered booked polled raiseOne prefer follow settleOne clearOne restart enough failureClears anotherMarked markOne ancestry sweep spread voteOf openCall upTo firstFrom total greatest from walkFrom
 later-walked = tt
 
 damaged-walked : Passes (sameTable (damaged (made testWalked)) damagedRows)
-unfolding damaged damagedRows decode valueOf readMany inOrder dayOf parentCount holder highFirst joined encode sameNumbers testWalked badRecordWalked badSlotWalked headerGood genesisGood bookingGood parentsGood stateGood markGood chits bookingsOf opened openWord lookUp hasUnknown hasTwice entered booked polled raiseOne prefer follow settleOne clearOne restart enough failureClears anotherMarked markOne ancestry sweep spread voteOf openCall upTo firstFrom total greatest from walkFrom
+unfolding damaged damagedRows decode valueOf readMany inOrder dayOf parentCount holder highFirst joined encode sameNumbers testWalked badRecordWalked badSlotWalked allZero headerGood genesisGood bookingGood parentsGood stateGood markGood chits bookingsOf opened openWord lookUp hasUnknown hasTwice entered booked polled raiseOne prefer follow settleOne clearOne restart enough failureClears anotherMarked markOne ancestry sweep spread voteOf openCall upTo firstFrom total greatest from walkFrom
 damaged-walked = tt
 
 -- one ledger's rows, by the calls of the law

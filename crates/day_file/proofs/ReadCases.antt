@@ -19,7 +19,7 @@ use Rattle.rules.specs.Marks.{anotherMarked, markOne}
 use Rattle.rules.specs.Poll.{polled, raiseOne, prefer, follow, settleOne, clearOne}
 use Rattle.rules.specs.Calls.{openCall}
 use Rattle.rules.proofs.Same.{sameNumbers, Got, got, Passes, sameTable}
-use Rattle.rules.proofs.Walk.{badRecordWalked, badSlotWalked, testWalked}
+use Rattle.rules.proofs.Walk.{badRecordWalked, badSlotWalked, allZero, testWalked}
 use Rattle.day_file.specs.Day.{parentCount, holder, dayOf}
 use Rattle.day_file.specs.Bytes.{highFirst, joined, encode}
 use Rattle.day_file.specs.Decode.{valueOf, readMany, decode}
@@ -197,35 +197,35 @@ says = unchangedRows ++ amissRows ++ editionsRows ++ unbookedRows ++ aheadRows +
 -- ---- computed with the test that walks
 
 unchanged-walked : Passes (sameTable (unchanged (made testWalked)) unchangedRows)
-unfolding unchanged unchangedRows decode valueOf readMany inOrder dayOf parentCount holder highFirst joined encode sameNumbers testWalked badRecordWalked badSlotWalked headerGood genesisGood bookingGood parentsGood stateGood markGood chits bookingsOf opened openWord lookUp hasUnknown hasTwice entered booked polled raiseOne prefer follow settleOne clearOne restart enough failureClears anotherMarked markOne ancestry sweep spread voteOf openCall upTo firstFrom total greatest from walkFrom
+unfolding unchanged unchangedRows decode valueOf readMany inOrder dayOf parentCount holder highFirst joined encode sameNumbers testWalked badRecordWalked badSlotWalked allZero headerGood genesisGood bookingGood parentsGood stateGood markGood chits bookingsOf opened openWord lookUp hasUnknown hasTwice entered booked polled raiseOne prefer follow settleOne clearOne restart enough failureClears anotherMarked markOne ancestry sweep spread voteOf openCall upTo firstFrom total greatest from walkFrom
 unchanged-walked = tt
 
 amiss-walked : Passes (sameTable (amiss (made testWalked)) amissRows)
-unfolding amiss amissRows decode valueOf readMany inOrder dayOf parentCount holder highFirst joined encode sameNumbers testWalked badRecordWalked badSlotWalked headerGood genesisGood bookingGood parentsGood stateGood markGood chits bookingsOf opened openWord lookUp hasUnknown hasTwice entered booked polled raiseOne prefer follow settleOne clearOne restart enough failureClears anotherMarked markOne ancestry sweep spread voteOf openCall upTo firstFrom total greatest from walkFrom
+unfolding amiss amissRows decode valueOf readMany inOrder dayOf parentCount holder highFirst joined encode sameNumbers testWalked badRecordWalked badSlotWalked allZero headerGood genesisGood bookingGood parentsGood stateGood markGood chits bookingsOf opened openWord lookUp hasUnknown hasTwice entered booked polled raiseOne prefer follow settleOne clearOne restart enough failureClears anotherMarked markOne ancestry sweep spread voteOf openCall upTo firstFrom total greatest from walkFrom
 amiss-walked = tt
 
 editions-walked : Passes (sameTable (editions (made testWalked)) editionsRows)
-unfolding editions editionsRows decode valueOf readMany inOrder dayOf parentCount holder highFirst joined encode sameNumbers testWalked badRecordWalked badSlotWalked headerGood genesisGood bookingGood parentsGood stateGood markGood chits bookingsOf opened openWord lookUp hasUnknown hasTwice entered booked polled raiseOne prefer follow settleOne clearOne restart enough failureClears anotherMarked markOne ancestry sweep spread voteOf openCall upTo firstFrom total greatest from walkFrom
+unfolding editions editionsRows decode valueOf readMany inOrder dayOf parentCount holder highFirst joined encode sameNumbers testWalked badRecordWalked badSlotWalked allZero headerGood genesisGood bookingGood parentsGood stateGood markGood chits bookingsOf opened openWord lookUp hasUnknown hasTwice entered booked polled raiseOne prefer follow settleOne clearOne restart enough failureClears anotherMarked markOne ancestry sweep spread voteOf openCall upTo firstFrom total greatest from walkFrom
 editions-walked = tt
 
 unbooked-walked : Passes (sameTable (unbooked (made testWalked)) unbookedRows)
-unfolding unbooked unbookedRows decode valueOf readMany inOrder dayOf parentCount holder highFirst joined encode sameNumbers testWalked badRecordWalked badSlotWalked headerGood genesisGood bookingGood parentsGood stateGood markGood chits bookingsOf opened openWord lookUp hasUnknown hasTwice entered booked polled raiseOne prefer follow settleOne clearOne restart enough failureClears anotherMarked markOne ancestry sweep spread voteOf openCall upTo firstFrom total greatest from walkFrom
+unfolding unbooked unbookedRows decode valueOf readMany inOrder dayOf parentCount holder highFirst joined encode sameNumbers testWalked badRecordWalked badSlotWalked allZero headerGood genesisGood bookingGood parentsGood stateGood markGood chits bookingsOf opened openWord lookUp hasUnknown hasTwice entered booked polled raiseOne prefer follow settleOne clearOne restart enough failureClears anotherMarked markOne ancestry sweep spread voteOf openCall upTo firstFrom total greatest from walkFrom
 unbooked-walked = tt
 
 ahead-walked : Passes (sameTable (ahead (made testWalked)) aheadRows)
-unfolding ahead aheadRows decode valueOf readMany inOrder dayOf parentCount holder highFirst joined encode sameNumbers testWalked badRecordWalked badSlotWalked headerGood genesisGood bookingGood parentsGood stateGood markGood chits bookingsOf opened openWord lookUp hasUnknown hasTwice entered booked polled raiseOne prefer follow settleOne clearOne restart enough failureClears anotherMarked markOne ancestry sweep spread voteOf openCall upTo firstFrom total greatest from walkFrom
+unfolding ahead aheadRows decode valueOf readMany inOrder dayOf parentCount holder highFirst joined encode sameNumbers testWalked badRecordWalked badSlotWalked allZero headerGood genesisGood bookingGood parentsGood stateGood markGood chits bookingsOf opened openWord lookUp hasUnknown hasTwice entered booked polled raiseOne prefer follow settleOne clearOne restart enough failureClears anotherMarked markOne ancestry sweep spread voteOf openCall upTo firstFrom total greatest from walkFrom
 ahead-walked = tt
 
 crowded-walked : Passes (sameTable (crowded (made testWalked)) crowdedRows)
-unfolding crowded crowdedRows decode valueOf readMany inOrder dayOf parentCount holder highFirst joined encode sameNumbers testWalked badRecordWalked badSlotWalked headerGood genesisGood bookingGood parentsGood stateGood markGood chits bookingsOf opened openWord lookUp hasUnknown hasTwice entered booked polled raiseOne prefer follow settleOne clearOne restart enough failureClears anotherMarked markOne ancestry sweep spread voteOf openCall upTo firstFrom total greatest from walkFrom
+unfolding crowded crowdedRows decode valueOf readMany inOrder dayOf parentCount holder highFirst joined encode sameNumbers testWalked badRecordWalked badSlotWalked allZero headerGood genesisGood bookingGood parentsGood stateGood markGood chits bookingsOf opened openWord lookUp hasUnknown hasTwice entered booked polled raiseOne prefer follow settleOne clearOne restart enough failureClears anotherMarked markOne ancestry sweep spread voteOf openCall upTo firstFrom total greatest from walkFrom
 crowded-walked = tt
 
 unpolled-walked : Passes (sameTable (unpolled (made testWalked)) unpolledRows)
-unfolding unpolled unpolledRows decode valueOf readMany inOrder dayOf parentCount holder highFirst joined encode sameNumbers testWalked badRecordWalked badSlotWalked headerGood genesisGood bookingGood parentsGood stateGood markGood chits bookingsOf opened openWord lookUp hasUnknown hasTwice entered booked polled raiseOne prefer follow settleOne clearOne restart enough failureClears anotherMarked markOne ancestry sweep spread voteOf openCall upTo firstFrom total greatest from walkFrom
+unfolding unpolled unpolledRows decode valueOf readMany inOrder dayOf parentCount holder highFirst joined encode sameNumbers testWalked badRecordWalked badSlotWalked allZero headerGood genesisGood bookingGood parentsGood stateGood markGood chits bookingsOf opened openWord lookUp hasUnknown hasTwice entered booked polled raiseOne prefer follow settleOne clearOne restart enough failureClears anotherMarked markOne ancestry sweep spread voteOf openCall upTo firstFrom total greatest from walkFrom
 unpolled-walked = tt
 
 longer-walked : Passes (sameTable (longer (made testWalked)) longerRows)
-unfolding longer longerRows decode valueOf readMany inOrder dayOf parentCount holder highFirst joined encode sameNumbers testWalked badRecordWalked badSlotWalked headerGood genesisGood bookingGood parentsGood stateGood markGood chits bookingsOf opened openWord lookUp hasUnknown hasTwice entered booked polled raiseOne prefer follow settleOne clearOne restart enough failureClears anotherMarked markOne ancestry sweep spread voteOf openCall upTo firstFrom total greatest from walkFrom
+unfolding longer longerRows decode valueOf readMany inOrder dayOf parentCount holder highFirst joined encode sameNumbers testWalked badRecordWalked badSlotWalked allZero headerGood genesisGood bookingGood parentsGood stateGood markGood chits bookingsOf opened openWord lookUp hasUnknown hasTwice entered booked polled raiseOne prefer follow settleOne clearOne restart enough failureClears anotherMarked markOne ancestry sweep spread voteOf openCall upTo firstFrom total greatest from walkFrom
 longer-walked = tt
 
 -- the statement: the cases are as the request says

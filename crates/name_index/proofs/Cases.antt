@@ -20,7 +20,7 @@ use Rattle.rules.specs.Open.{opened, openWord}
 use Rattle.rules.specs.Book.{lookUp, hasUnknown, hasTwice, entered, booked}
 use Rattle.rules.specs.Calls.{openCall, damageBy, damageOf, testBy, testOf, bookBy, bookCall}
 use Rattle.rules.proofs.Same.{sameNumbers, Got, got, Passes, passes, sameTable, same-table}
-use Rattle.rules.proofs.Walk.{badRecordWalked, badSlotWalked, record-walked-is, slot-walked-is}
+use Rattle.rules.proofs.Walk.{badRecordWalked, badSlotWalked, allZero, record-walked-is, slot-walked-is}
 use Rattle.name_index.specs.Hash.{hashOf}
 use Rattle.name_index.specs.Index.{probe, lookUpIn, withNumber, built}
 use Rattle.name_index.specs.Calls.{buildBy, enterBy, findBy, indexBuildCall, indexEnterCall, indexFindCall}
@@ -214,19 +214,19 @@ unfolding hashes hashRow named hashOf upTo
 hashes-are = tt
 
 crowded-walked : Passes (sameTable (crowded (made damageWalked)) crowdedRows)
-unfolding crowded crowdedRows holding hashOf probe lookUpIn withNumber built sameNumbers badRecordWalked badSlotWalked headerGood genesisGood bookingGood parentsGood stateGood markGood chits bookingsOf opened openWord lookUp hasUnknown hasTwice entered booked openCall upTo firstFrom total from walkFrom
+unfolding crowded crowdedRows holding hashOf probe lookUpIn withNumber built sameNumbers badRecordWalked badSlotWalked allZero headerGood genesisGood bookingGood parentsGood stateGood markGood chits bookingsOf opened openWord lookUp hasUnknown hasTwice entered booked openCall upTo firstFrom total from walkFrom
 crowded-walked = tt
 
 foreign-walked : Passes (sameTable (foreign (made damageWalked)) foreignRows)
-unfolding foreign foreignRows holding hashOf probe lookUpIn withNumber built sameNumbers badRecordWalked badSlotWalked headerGood genesisGood bookingGood parentsGood stateGood markGood chits bookingsOf opened openWord lookUp hasUnknown hasTwice entered booked openCall upTo firstFrom total from walkFrom
+unfolding foreign foreignRows holding hashOf probe lookUpIn withNumber built sameNumbers badRecordWalked badSlotWalked allZero headerGood genesisGood bookingGood parentsGood stateGood markGood chits bookingsOf opened openWord lookUp hasUnknown hasTwice entered booked openCall upTo firstFrom total from walkFrom
 foreign-walked = tt
 
 full-walked : Passes (sameTable (full (made damageWalked)) fullRows)
-unfolding full fullRows holding hashOf probe lookUpIn withNumber built sameNumbers badRecordWalked badSlotWalked headerGood genesisGood bookingGood parentsGood stateGood markGood chits bookingsOf opened openWord lookUp hasUnknown hasTwice entered booked openCall upTo firstFrom total from walkFrom
+unfolding full fullRows holding hashOf probe lookUpIn withNumber built sameNumbers badRecordWalked badSlotWalked allZero headerGood genesisGood bookingGood parentsGood stateGood markGood chits bookingsOf opened openWord lookUp hasUnknown hasTwice entered booked openCall upTo firstFrom total from walkFrom
 full-walked = tt
 
 refused-walked : Passes (sameTable (refused (made damageWalked)) refusedRows)
-unfolding refused refusedRows holding hashOf probe lookUpIn withNumber built sameNumbers badRecordWalked badSlotWalked headerGood genesisGood bookingGood parentsGood stateGood markGood chits bookingsOf opened openWord lookUp hasUnknown hasTwice entered booked openCall upTo firstFrom total from walkFrom
+unfolding refused refusedRows holding hashOf probe lookUpIn withNumber built sameNumbers badRecordWalked badSlotWalked allZero headerGood genesisGood bookingGood parentsGood stateGood markGood chits bookingsOf opened openWord lookUp hasUnknown hasTwice entered booked openCall upTo firstFrom total from walkFrom
 refused-walked = tt
 
 -- one ledger's rows, by the calls of the law

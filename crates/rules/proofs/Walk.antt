@@ -1,25 +1,31 @@
--- The test of a workspace that walks the rows once, for computing: it gives what `testOf` gives.
-use mathlib.Core.Path.{_≡_, ap, ap₂, fun-ext, _∙_}
-use mathlib.Core.Bool.{Bool, _&&_, _||_, not, cond}
-use mathlib.Core.List.{List}
-use Prim.Native.Nat.{ℕ, _+_, _*_}
+-- The test of a workspace that walks the rows once, and words that have to be 0 in one go, for computing: it gives what `testOf` gives.
+use mathlib.Core.Path.{_≡_, refl, sym, ap, ap₂, fun-ext, _∙_}
+use mathlib.Core.Bool.{Bool, true, false, _&&_, _||_, not, cond, true≢false}
+use mathlib.Core.List.{List, [], _∷_}
+use Prim.Native.Nat.{ℕ, zero, suc, _+_, _*_, _-_, _<_, _≤_}
 use native.Mathlib.Nat.{zero-add}
 use native.Mathlib.Omega.{arith}
 use lib.ListN.{getD, drop}
 use lib.Seq.{getD-drop}
+use native.Mathlib.Decide.{decLt}
 use lib.Dec.{ltb, leb, eqb}
+use borrow.Author.Tests.{eq-eqb, ne-eqb, lt-ltb, le-ltb, leb-true, leb-false}
 use Rattle.loops.specs.Search.{first, all}
 use Rattle.loops.specs.Total.{bit, count}
 use Rattle.loops.specs.Fill.{from}
 use Rattle.loops.specs.Rows.{walkFrom}
+use Rattle.loops.proofs.Bools.{and-left, and-right, and-both, or-else}
+use Rattle.loops.proofs.Search.{first-le, first-hit, first-before, first-ends, →all}
 use Rattle.loops.proofs.Total.{total-same}
 use Rattle.loops.proofs.Fill.{getD-from}
 use Rattle.loops.proofs.Rows.{walk-is}
 use Rattle.terms.specs.declared.answer.Tested.{Tested}
-use Rattle.rules.specs.Layout.{headerWords, recordWords, slotWords, slotsStart, mostBookings, slots, none, bookings, slotOf}
+use Rattle.rules.specs.Layout.{headerWords, recordWords, slotWords, slotsStart, mostBookings, slots, none, field, bookings, slotOf}
 use Rattle.rules.specs.IsSound.{
   recordGood,
   ordinalsHeld,
+  recordZero,
+  restGood,
   recordRow,
   recordRows,
   badRecord,
@@ -65,9 +71,32 @@ slotWalked w taken s l =
 abbrev taken : List ℕ → List ℕ
 taken w = from (slotOf w) 0 (bookings w)
 
+-- the first k words are 0, or missing
+unfoldable pub allZero : ℕ → List ℕ → Bool
+allZero zero l = true
+allZero (suc k) [] = true
+allZero (suc k) (zero ∷ l) = allZero k l
+allZero (suc k) (suc x ∷ l) = false
+
+-- every word of a record from n on is 0
+abbrev restZero : List ℕ → Bool
+restZero w = allZero (recordWords * (mostBookings - bookings w)) (drop (headerWords + recordWords * bookings w) w)
+
+-- so every row from n on is in order, where no ordinal is missing
+abbrev restClean : List ℕ → Bool
+restClean w = leb (bookings w) mostBookings && ordinalsHeld w && restZero w
+
+-- the lowest row below n that breaks a rule, or n
+abbrev badBelow : List ℕ → ℕ
+badBelow w = first (λ i. not (recordGood w i)) (bookings w)
+
+-- of an undamaged ledger, and of most damaged ones, only the rows below n are looked at one by one
 unfoldable pub badRecordWalked : List ℕ → ℕ
 unfolding recordWalked zeroWords lowest
-badRecordWalked w = lowest headerWords recordWords recordRows (λ i l. not (recordWalked w i l)) w
+badRecordWalked w =
+    cond (restClean w)
+    (let i = badBelow w in cond (eqb i (bookings w)) recordRows i)
+    (lowest headerWords recordWords recordRows (λ i l. not (recordWalked w i l)) w)
 
 unfoldable pub badSlotWalked : List ℕ → ℕ
 unfolding slotWalked among lowest
@@ -88,11 +117,70 @@ record-walked w i =
     (zero-words (drop (headerWords + recordWords * i) w)
     ∙ ap (λ p. all p recordWords) (fun-ext (λ f. ap (λ x. eqb x 0) (getD-drop (headerWords + recordWords * i) w f 0))))
 
-pub record-walked-is : (w : List ℕ) → badRecordWalked w ≡ badRecord w
+allZero-at : (k : ℕ) (l : List ℕ) → allZero k l ≡ true → (j : ℕ) → j < k → getD l j 0 ≡ 0
+unfolding allZero
+allZero-at zero l e j h = absurd (omega arith)
+allZero-at (suc k) [] e j h = refl
+allZero-at (suc k) (zero ∷ l) e zero h = refl
+allZero-at (suc k) (zero ∷ l) e (suc j) h = allZero-at k l e j (omega arith)
+allZero-at (suc k) (suc x ∷ l) e j h = absurd (true≢false (sym e))
+
+module _ (w : List ℕ) where
+  row-below : (i : ℕ) → i < bookings w → not (recordRow w i) ≡ not (recordGood w i)
+  row-below i h = ap (λ t. not (cond t (recordGood w i) (restGood w i))) (lt-ltb i (bookings w) h)
+
+  module _ (within : bookings w ≤ mostBookings) (held : ordinalsHeld w ≡ true) (clean : restZero w ≡ true) where
+    zero-from : (i : ℕ) → bookings w ≤ i → i < mostBookings → recordZero w i ≡ true
+    zero-from i h u =
+        →all (λ f. eqb (field w i f) 0) recordWords (λ f v.
+        let start = headerWords + recordWords * bookings w in
+        let at = recordWords * (i - bookings w) + f in
+        let here : field w i f ≡ getD w (start + at) 0 = ap (λ j. getD w j 0) (omega arith) in
+        eq-eqb (field w i f) 0
+        (here ∙ sym (getD-drop start w at 0) ∙ allZero-at (recordWords * (mostBookings - bookings w)) (drop start w) clean at (omega arith)))
+
+    rest-good : (i : ℕ) → bookings w ≤ i → restGood w i ≡ true
+    rest-good i h =
+        and-both (leb mostBookings i || recordZero w i) (not (eqb i (bookings w)) || ordinalsHeld w)
+        (or-else (leb mostBookings i) (recordZero w i) (λ t. zero-from i h (leb-false mostBookings i t)))
+        (or-else (not (eqb i (bookings w))) (ordinalsHeld w) (λ t. held))
+
+    clean-is : cond (eqb (badBelow w) (bookings w)) recordRows (badBelow w) ≡ first (λ i. not (recordRow w i)) recordRows
+    clean-is = go (decLt (badBelow w) (bookings w))
+      where
+        before : (j : ℕ) → j < badBelow w → not (recordRow w j) ≡ false
+        before j h = row-below j (omega (arith, h, first-le (λ i. not (recordGood w i)) (bookings w))) ∙ first-before (λ i. not (recordGood w i)) (bookings w) j h
+
+        go : Dec (badBelow w < bookings w) → cond (eqb (badBelow w) (bookings w)) recordRows (badBelow w) ≡ first (λ i. not (recordRow w i)) recordRows
+        go (yes u) =
+            rw (ne-eqb (badBelow w) (bookings w) (λ q. omega arith))
+            (sym (first-ends (λ i. not (recordRow w i)) recordRows (badBelow w) (omega arith) before
+            (λ v. row-below (badBelow w) u ∙ first-hit (λ i. not (recordGood w i)) (bookings w) u)))
+        go (no u) =
+            let end : badBelow w ≡ bookings w = omega (arith, first-le (λ i. not (recordGood w i)) (bookings w)) in
+            rw (eq-eqb (badBelow w) (bookings w) end)
+            (sym (first-ends (λ i. not (recordRow w i)) recordRows recordRows (omega arith) (λ j h. each j end (decLt j (bookings w))) (λ v. absurd (omega arith))))
+          where
+            each : (j : ℕ) → badBelow w ≡ bookings w → Dec (j < bookings w) → not (recordRow w j) ≡ false
+            each j end (yes v) = before j (omega arith)
+            each j end (no v) = ap (λ t. not (cond t (recordGood w j) (restGood w j))) (le-ltb j (bookings w) (omega arith)) ∙ ap not (rest-good j (omega arith))
+
+record-walked-by : (w : List ℕ) (t : Bool) → restClean w ≡ t → badRecordWalked w ≡ badRecord w
 unfolding badRecordWalked badRecord
-record-walked-is w =
-    lowest-is headerWords recordWords recordRows (λ i l. not (recordWalked w i l)) w
-    ∙ ap (λ p. first p recordRows) (fun-ext (λ i. ap not (record-walked w i)))
+record-walked-by w true e =
+    let first = and-left (leb (bookings w) mostBookings && ordinalsHeld w) (restZero w) e in
+    rw e
+    (clean-is w
+    (leb-true (bookings w) mostBookings (and-left (leb (bookings w) mostBookings) (ordinalsHeld w) first))
+    (and-right (leb (bookings w) mostBookings) (ordinalsHeld w) first)
+    (and-right (leb (bookings w) mostBookings && ordinalsHeld w) (restZero w) e))
+record-walked-by w false e =
+    rw e
+    (lowest-is headerWords recordWords recordRows (λ i l. not (recordWalked w i l)) w
+    ∙ ap (λ p. first p recordRows) (fun-ext (λ i. ap not (record-walked w i))))
+
+pub record-walked-is : (w : List ℕ) → badRecordWalked w ≡ badRecord w
+record-walked-is w = record-walked-by w (restClean w) refl
 
 among-is : (w : List ℕ) (s : ℕ) → among (taken w) (bookings w) s ≡ bookingsOf w s
 unfolding among bookingsOf

@@ -26,7 +26,7 @@ use Rattle.rules.specs.Marks.{anotherMarked, markOne}
 use Rattle.rules.specs.Calls.{tested, openCall, bookBy, pollBy, readBy, bookCall, pollCall, readCall}
 use Rattle.rules.specs.Listing.{listCall}
 use Rattle.rules.proofs.Same.{Passes, passes, sameNumbers, same-numbers}
-use Rattle.rules.proofs.Walk.{badRecordWalked, badSlotWalked, testWalked, test-walked-is}
+use Rattle.rules.proofs.Walk.{badRecordWalked, badSlotWalked, allZero, testWalked, test-walked-is}
 use Rattle.text_bytes.specs.Bytes.{bytes}
 use Rattle.text_put.specs.Decimal.{digitsOf, decimal}
 use Rattle.text_print.specs.Print.{callPrints}
@@ -98,7 +98,7 @@ abbrev unopened : List ℕ
 unopened = replicate size 0
 
 run-walked : Passes (sameNumbers (runPrints (made testWalked) unopened) runSays)
-unfolding runPrints sameNumbers listRow rowsPrint listPrints rowPrints digitsOf decimal testWalked badRecordWalked badSlotWalked headerGood genesisGood bookingGood parentsGood stateGood markGood chits bookingsOf opened openWord lookUp hasUnknown hasTwice entered booked polled raiseOne prefer follow settleOne clearOne restart enough failureClears anotherMarked markOne ancestry sweep spread voteOf openCall upTo firstFrom total greatest from walkFrom
+unfolding runPrints sameNumbers listRow rowsPrint listPrints rowPrints digitsOf decimal testWalked badRecordWalked badSlotWalked allZero headerGood genesisGood bookingGood parentsGood stateGood markGood chits bookingsOf opened openWord lookUp hasUnknown hasTwice entered booked polled raiseOne prefer follow settleOne clearOne restart enough failureClears anotherMarked markOne ancestry sweep spread voteOf openCall upTo firstFrom total greatest from walkFrom
 run-walked = tt
 
 pub calls-walked : theCalls ≡ made testWalked

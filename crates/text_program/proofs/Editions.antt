@@ -20,7 +20,7 @@ use Rattle.rules.specs.Poll.{polled, raiseOne, prefer, follow, settleOne, clear
 use Rattle.rules.specs.Marks.{anotherMarked, markOne}
 use Rattle.rules.specs.Calls.{openCall}
 use Rattle.rules.proofs.Same.{Passes, passes, sameNumbers, same-numbers}
-use Rattle.rules.proofs.Walk.{badRecordWalked, badSlotWalked, testWalked}
+use Rattle.rules.proofs.Walk.{badRecordWalked, badSlotWalked, allZero, testWalked}
 use Rattle.text_bytes.specs.Bytes.{bytes}
 use Rattle.text_put.specs.Decimal.{digitsOf, decimal, signed}
 use Rattle.text_print.specs.Print.{badLine, readingPrints, callPrints}
@@ -103,7 +103,7 @@ unfolding printed served lineSays openSays readSays bookSays pollSays leading ma
 editions-calls w = refl
 
 editions-walked : Passes (sameNumbers (editionsPrint (made testWalked) zeros) editionsSay)
-unfolding editionsPrint sameNumbers digitsOf decimal signed testWalked badRecordWalked badSlotWalked headerGood genesisGood bookingGood parentsGood stateGood markGood chits bookingsOf opened openWord lookUp hasUnknown hasTwice entered booked polled raiseOne prefer follow settleOne clearOne restart enough failureClears anotherMarked markOne ancestry sweep spread voteOf openCall upTo firstFrom total greatest from walkFrom
+unfolding editionsPrint sameNumbers digitsOf decimal signed testWalked badRecordWalked badSlotWalked allZero headerGood genesisGood bookingGood parentsGood stateGood markGood chits bookingsOf opened openWord lookUp hasUnknown hasTwice entered booked polled raiseOne prefer follow settleOne clearOne restart enough failureClears anotherMarked markOne ancestry sweep spread voteOf openCall upTo firstFrom total greatest from walkFrom
 editions-walked = tt
 
 pub editions-print : program editionsInput ≡ editionsSay

@@ -21,7 +21,7 @@ use Rattle.rules.specs.Marks.{anotherMarked, markOne}
 use Rattle.rules.specs.Readings.{queryOf, rivalsMost, leadOf, sizeOf}
 use Rattle.rules.specs.Calls.{openCall}
 use Rattle.rules.proofs.Same.{Passes, passes, sameNumbers, same-numbers}
-use Rattle.rules.proofs.Walk.{badRecordWalked, badSlotWalked, testWalked}
+use Rattle.rules.proofs.Walk.{badRecordWalked, badSlotWalked, allZero, testWalked}
 use Rattle.text_bytes.specs.Bytes.{bytes}
 use Rattle.text_put.specs.Decimal.{digitsOf, decimal, signed}
 use Rattle.text_print.specs.Print.{badLine, readingPrints, callPrints}
@@ -97,7 +97,7 @@ unfolding printed served lineSays openSays readSays bookSays pollSays leading ma
 readings-calls w = refl
 
 readings-walked : Passes (sameNumbers (readingsPrint (made testWalked) zeros) readingsSay)
-unfolding readingsPrint sameNumbers digitsOf decimal signed testWalked badRecordWalked badSlotWalked headerGood genesisGood bookingGood parentsGood stateGood markGood chits bookingsOf opened openWord lookUp hasUnknown hasTwice entered booked polled raiseOne prefer follow settleOne clearOne restart enough failureClears anotherMarked markOne queryOf rivalsMost leadOf sizeOf ancestry sweep spread voteOf openCall upTo firstFrom total greatest from walkFrom
+unfolding readingsPrint sameNumbers digitsOf decimal signed testWalked badRecordWalked badSlotWalked allZero headerGood genesisGood bookingGood parentsGood stateGood markGood chits bookingsOf opened openWord lookUp hasUnknown hasTwice entered booked polled raiseOne prefer follow settleOne clearOne restart enough failureClears anotherMarked markOne queryOf rivalsMost leadOf sizeOf ancestry sweep spread voteOf openCall upTo firstFrom total greatest from walkFrom
 readings-walked = tt
 
 pub readings-print : program readingsInput ≡ readingsSay

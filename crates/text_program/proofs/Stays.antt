@@ -20,7 +20,7 @@ use Rattle.rules.specs.Poll.{polled, raiseOne, prefer, follow, settleOne, clear
 use Rattle.rules.specs.Marks.{anotherMarked, markOne}
 use Rattle.rules.specs.Calls.{openCall}
 use Rattle.rules.proofs.Same.{Passes, passes, sameNumbers, same-numbers}
-use Rattle.rules.proofs.Walk.{badRecordWalked, badSlotWalked, testWalked}
+use Rattle.rules.proofs.Walk.{badRecordWalked, badSlotWalked, allZero, testWalked}
 use Rattle.text_bytes.specs.Bytes.{bytes}
 use Rattle.text_put.specs.Decimal.{digitsOf, decimal, signed}
 use Rattle.text_print.specs.Print.{readingPrints, callPrints}
@@ -90,7 +90,7 @@ unfolding printed served lineSays openSays readSays bookSays pollSays leading ma
 stays-calls w = refl
 
 stays-walked : Passes (sameNumbers (staysPrint (made testWalked) zeros) staysSay)
-unfolding staysPrint sameNumbers listRow rowsPrint listPrints rowPrints digitsOf decimal signed testWalked badRecordWalked badSlotWalked headerGood genesisGood bookingGood parentsGood stateGood markGood chits bookingsOf opened openWord lookUp hasUnknown hasTwice entered booked polled raiseOne prefer follow settleOne clearOne restart enough failureClears anotherMarked markOne ancestry sweep spread voteOf openCall upTo firstFrom total greatest from walkFrom
+unfolding staysPrint sameNumbers listRow rowsPrint listPrints rowPrints digitsOf decimal signed testWalked badRecordWalked badSlotWalked allZero headerGood genesisGood bookingGood parentsGood stateGood markGood chits bookingsOf opened openWord lookUp hasUnknown hasTwice entered booked polled raiseOne prefer follow settleOne clearOne restart enough failureClears anotherMarked markOne ancestry sweep spread voteOf openCall upTo firstFrom total greatest from walkFrom
 stays-walked = tt
 
 pub stays-print : program staysInput ≡ staysSay
