@@ -33,10 +33,10 @@ good-lines :
 unfolding says lineSays words wordEnd wordsAfter valueOf isNumber numberRead voteRead isSame leading manyOf openSays readSays bookSays pollSays firstFrom upTo
 good-lines = (refl, refl, refl, refl, refl, refl, refl, refl, refl, refl)
 
--- `open` with four numbers: the edition is 0
+-- `open` with four numbers: the edition is 1
 edition-untold :
-    (says "open 3 2 1 2" ≡ bare (Open (record { k = 3; a = 2; beta1 = 1; beta2 = 2; edition = 0 })))
-    × (says "open 1 1 1 1" ≡ bare (Open (record { k = 1; a = 1; beta1 = 1; beta2 = 1; edition = 0 })))
+    (says "open 3 2 1 2" ≡ bare (Open (record { k = 3; a = 2; beta1 = 1; beta2 = 2; edition = 1 })))
+    × (says "open 0 0 0 0" ≡ bare (Open (record { k = 0; a = 0; beta1 = 0; beta2 = 0; edition = 1 })))
 unfolding says lineSays words wordEnd wordsAfter valueOf isNumber numberRead voteRead isSame leading manyOf openSays readSays bookSays pollSays firstFrom upTo
 edition-untold = (refl, refl)
 

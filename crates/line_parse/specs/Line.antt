@@ -1,4 +1,4 @@
--- Document 01, "The text program", and CR 7: what a line says. The whole line is judged before any call is made.
+-- Document 01, "The text program", with CR 7 and CR 8: what a line says. The whole line is judged before any call is made.
 use Prim.Native.Nat.{ℕ, _≤_}
 use mathlib.Core.Path.{_≡_}
 use mathlib.Core.Bool.{cond}
@@ -63,9 +63,9 @@ openLeast = 4
 abbrev pub openMost : ℕ
 openMost = 5
 
--- the edition where no fifth number tells it
+-- the edition where no fifth number tells it: the later one (CR 8)
 abbrev pub editionUntold : ℕ
-editionUntold = 0
+editionUntold = 1
 
 -- k a β1 β2 and the edition, or what stands for it where it is left out
 abbrev pub settingOr : ℕ → List ℕ → Setting

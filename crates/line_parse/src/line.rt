@@ -33,8 +33,8 @@ const SHORT_MOST: u64 = 65535;
 // The fewest numbers of `open`.
 const OPEN_LEAST: usize = 4;
 
-// The edition where no fifth number tells it.
-const EDITION_UNTOLD: u64 = 0;
+// The edition where no fifth number tells it: the later one.
+const EDITION_UNTOLD: u64 = Setting::LATER_EDITION as u64;
 
 // Five short numbers as a setting.
 fn setting_of(five: &[u64; 5]) -> Setting

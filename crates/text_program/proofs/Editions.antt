@@ -1,4 +1,5 @@
--- A fourth computed input: the edition as the fifth number of `open`. P9 and its neighbour are typed, and three openings that are none.
+-- A fourth computed input: the edition as the fifth number of `open`, and what four numbers mean (CR 8). P9 is typed by each edition and with none told, and
+-- three openings that are none.
 use mathlib.Core.Path.{_≡_, refl, ap, _∙_}
 use mathlib.Core.List.{List, [], _∷_, _++_}
 use Prim.Native.Nat.{ℕ}
@@ -36,7 +37,7 @@ use Rattle.text_program.proofs.Program.{program-short}
 
 abbrev pub editionsInput : List ℕ
 editionsInput =
-    bytes "open 1 1 1 2 2\nopen 1 1 1 2 65537\nopen 1 1 1 2 1 1\nopen 1 1 1 2 1\nbook 1 7 0\npoll 1 1\naccepted 1\nopen 1 1 1 2 0\nbook 1 7 0\npoll 1 1\naccepted 1\nopen 1 1 1 2\nbook 1 7 0\npoll 1 1\naccepted 1\n"
+    bytes "open 1 1 1 2 2\nopen 1 1 1 2 65537\nopen 1 1 1 2 1 1\nopen 1 1 1 2 1\nbook 1 7 0\nbook 2 8 1\npoll 1 1\naccepted 1\nopen 1 1 1 2 0\nbook 1 7 0\nbook 2 8 1\npoll 1 1\naccepted 1\nopen 1 1 1 2\nbook 1 7 0\nbook 2 8 1\npoll 1 1\naccepted 1\n"
 
 abbrev editionsLines : List (List ℕ)
 editionsLines =
@@ -45,54 +46,50 @@ editionsLines =
     ∷ bytes "open 1 1 1 2 1 1"
     ∷ bytes "open 1 1 1 2 1"
     ∷ bytes "book 1 7 0"
+    ∷ bytes "book 2 8 1"
     ∷ bytes "poll 1 1"
     ∷ bytes "accepted 1"
     ∷ bytes "open 1 1 1 2 0"
     ∷ bytes "book 1 7 0"
+    ∷ bytes "book 2 8 1"
     ∷ bytes "poll 1 1"
     ∷ bytes "accepted 1"
     ∷ bytes "open 1 1 1 2"
     ∷ bytes "book 1 7 0"
+    ∷ bytes "book 2 8 1"
     ∷ bytes "poll 1 1"
     ∷ bytes "accepted 1"
     ∷ []
 
 -- By hand. There is no edition 2, which gives 3. 65537 is above the limit of a number, and six numbers are too many: bad lines. Each poll of 1 brings the
 -- counter of slot 7, where 1 is alone and last since it was booked, to 1, which is β1. By edition 1 that is enough, and 1 is accepted; by edition 0 it is
--- not, told so or not told.
+-- not. Four numbers mean edition 1, though the ledger before them is of edition 0.
 abbrev pub editionsSay : List ℕ
-editionsSay = bytes "refused 3\nbad line\nbad line\n1\n0\n0\n"
+editionsSay = bytes "refused 3\nbad line\nbad line\n1\n0\n1\n"
 
 -- ---- as calls
+
+-- P9 by an edition, and then what follows on its words
+abbrev p9Prints : ExampleCalls → ℕ → List ℕ → (List ℕ → List ℕ) → List ℕ
+p9Prints c edition w rest =
+    let empty = openCall w (settingOf 1 1 1 2 edition) in
+    let book1 = c .book (empty .words) 1 7 (0 ∷ []) in
+    let book2 = c .book (book1 .words) 2 8 (1 ∷ []) in
+    let poll1 = c .poll (book2 .words) 1 (1 ∷ []) in
+    callPrints (empty .answer)
+    ++ (callPrints (book1 .answer)
+    ++ (callPrints (book2 .answer)
+    ++ (callPrints (poll1 .answer)
+    ++ (readingPrints (c .ask Accepted (poll1 .words) 1)
+    ++ rest (poll1 .words)))))
 
 unfoldable editionsPrint : ExampleCalls → List ℕ → List ℕ
 editionsPrint c w =
     let none = openCall w (settingOf 1 1 1 2 2) in
-    let later = openCall (none .words) (settingOf 1 1 1 2 1) in
-    let laterBook = c .book (later .words) 1 7 (0 ∷ []) in
-    let laterPoll = c .poll (laterBook .words) 1 (1 ∷ []) in
-    let first = openCall (laterPoll .words) (settingOf 1 1 1 2 0) in
-    let firstBook = c .book (first .words) 1 7 (0 ∷ []) in
-    let firstPoll = c .poll (firstBook .words) 1 (1 ∷ []) in
-    let untold = openCall (firstPoll .words) (settingOf 1 1 1 2 0) in
-    let untoldBook = c .book (untold .words) 1 7 (0 ∷ []) in
-    let untoldPoll = c .poll (untoldBook .words) 1 (1 ∷ []) in
     callPrints (none .answer)
     ++ (badLine
     ++ (badLine
-    ++ (callPrints (later .answer)
-    ++ (callPrints (laterBook .answer)
-    ++ (callPrints (laterPoll .answer)
-    ++ (readingPrints (c .ask Accepted (laterPoll .words) 1)
-    ++ (callPrints (first .answer)
-    ++ (callPrints (firstBook .answer)
-    ++ (callPrints (firstPoll .answer)
-    ++ (readingPrints (c .ask Accepted (firstPoll .words) 1)
-    ++ (callPrints (untold .answer)
-    ++ (callPrints (untoldBook .answer)
-    ++ (callPrints (untoldPoll .answer)
-    ++ (readingPrints (c .ask Accepted (untoldPoll .words) 1)
-    ++ []))))))))))))))
+    ++ p9Prints c 1 (none .words) (λ later. p9Prints c 0 later (λ first. p9Prints c 1 first (λ untold. [])))))
 
 editions-lines : lines editionsInput ≡ editionsLines
 unfolding lines

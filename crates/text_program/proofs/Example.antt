@@ -1,4 +1,5 @@
--- Document 01, "The text program": its example, ten lines in and six lines out, computed from the definition of the program.
+-- Document 01, "The text program": its example, ten lines in and six lines out, computed from the definition of the program. With CR 8 the first
+-- line names edition 0.
 -- What each line says is computed here; what its calls do, in crates/text_listing/proofs/Run.antt.
 use mathlib.Core.Path.{_≡_, refl, ap, _∙_}
 use mathlib.Core.List.{List, [], _∷_}
@@ -37,7 +38,7 @@ limit-cases input = (λ e. program-short input (omega (arith, e)), λ e. program
 -- the ten lines
 abbrev pub example : List (List ℕ)
 example =
-    bytes "open 3 2 1 2"
+    bytes "open 3 2 1 2 0"
     ∷ bytes "book 1 7 0"
     ∷ bytes "book 2 7 0"
     ∷ bytes "book 3 9 1"
@@ -51,7 +52,7 @@ example =
 
 abbrev pub exampleInput : List ℕ
 exampleInput =
-    bytes "open 3 2 1 2\nbook 1 7 0\nbook 2 7 0\nbook 3 9 1\nbook 4 10 1 2\npoll 2 1 1 -1\npoll 3 1 0 0\npoll 4 1 1 1\npoll 1 1 1 0\nlist\n"
+    bytes "open 3 2 1 2 0\nbook 1 7 0\nbook 2 7 0\nbook 3 9 1\nbook 4 10 1 2\npoll 2 1 1 -1\npoll 3 1 0 0\npoll 4 1 1 1\npoll 1 1 1 0\nlist\n"
 
 example-lines : lines exampleInput ≡ example
 unfolding lines

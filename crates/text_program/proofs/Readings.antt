@@ -38,12 +38,12 @@ use Rattle.text_program.proofs.Program.{program-short}
 
 abbrev pub readingsInput : List ℕ
 readingsInput =
-    bytes "list\nopen 1 1 1 2\nbook 1 7 0\nbook 2 7 0\nquery 1\npoll 2 1\nlead 1\naccepted 2\npoll 1 1\nconfidence 1\nsize 3\nSize 2\nsize 2"
+    bytes "list\nopen 1 1 1 2 0\nbook 1 7 0\nbook 2 7 0\nquery 1\npoll 2 1\nlead 1\naccepted 2\npoll 1 1\nconfidence 1\nsize 3\nSize 2\nsize 2"
 
 abbrev readingsLines : List (List ℕ)
 readingsLines =
     bytes "list"
-    ∷ bytes "open 1 1 1 2"
+    ∷ bytes "open 1 1 1 2 0"
     ∷ bytes "book 1 7 0"
     ∷ bytes "book 2 7 0"
     ∷ bytes "query 1"

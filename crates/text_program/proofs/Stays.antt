@@ -37,11 +37,11 @@ use Rattle.text_program.specs.Program.{zeros, lines, printed, program}
 use Rattle.text_program.proofs.Program.{program-short}
 
 abbrev pub staysInput : List ℕ
-staysInput = bytes "open 1 1 1 2\nbook 1 7 0\nbook 2 8 1\npoll 1 1\naccepted 1\npoll 2 1\nbook 3 7 0\naccepted 1\nlist\n"
+staysInput = bytes "open 1 1 1 2 0\nbook 1 7 0\nbook 2 8 1\npoll 1 1\naccepted 1\npoll 2 1\nbook 3 7 0\naccepted 1\nlist\n"
 
 abbrev staysLines : List (List ℕ)
 staysLines =
-    bytes "open 1 1 1 2"
+    bytes "open 1 1 1 2 0"
     ∷ bytes "book 1 7 0"
     ∷ bytes "book 2 8 1"
     ∷ bytes "poll 1 1"

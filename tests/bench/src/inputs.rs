@@ -18,7 +18,7 @@ pub fn all() -> Vec<(&'static str, String)> {
 
 /// 511 bookings, each on the two before it, slots in turn.
 fn booked() -> String {
-    let mut text = "open 1 1 11 150\n".to_string();
+    let mut text = "open 1 1 11 150 0\n".to_string();
     for b in 1..512 {
         write!(text, "book {b} {} {}", 1 + (b - 1) % 255, b - 1).expect("a string takes text");
         if b > 1 {

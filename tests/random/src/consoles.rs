@@ -16,6 +16,7 @@ use second::layout::{record, STATE, WORDS};
 use second::ledger::Reading;
 use second::refusal::Refusal;
 use std::io::{ErrorKind, Read, Write};
+use std::ops::RangeInclusive;
 use std::path::PathBuf;
 use std::process::{Command as Process, Stdio};
 use std::sync::mpsc;
@@ -154,10 +155,10 @@ fn walk(input: &[u8], tally: &mut Tally) -> Result<(), String> {
                 history.opened(&setting);
                 tally.add("open taken");
                 let has_five = line.iter().filter(|&&byte| byte == b' ').count() == 5;
-                tally.add(match (setting.edition, has_five) {
-                    (1, _) => LATER,
-                    (_, true) => FIRST_TOLD,
-                    (_, false) => FIRST_LEFT_OUT,
+                tally.add(match (setting.is_later(), has_five) {
+                    (true, true) => LATER_TOLD,
+                    (true, false) => LATER_LEFT_OUT,
+                    (false, _) => FIRST,
                 });
             }
             (
@@ -209,9 +210,9 @@ const LONGEST_TAKEN: &str = "input of the longest length";
 const NO_LINE_FEED: &str = "input without a final line feed";
 const ACCEPTED: &str = "list with accepted bookings";
 const ACCEPTED_LATER: &str = "list with accepted bookings in the later edition";
-const FIRST_LEFT_OUT: &str = "open taken with four numbers";
-const FIRST_TOLD: &str = "open taken with the first edition told";
-const LATER: &str = "open taken in the later edition";
+const LATER_LEFT_OUT: &str = "open taken with four numbers";
+const LATER_TOLD: &str = "open taken with the later edition told";
+const FIRST: &str = "open taken in the first edition";
 const NO_EDITION: &str = "open refused for its edition";
 const KEPT: &str = "row accepted for its mark alone";
 const WITHHELD: &str = "row not accepted for another's mark alone";
@@ -241,9 +242,9 @@ pub fn missing(tally: &Tally) -> Vec<String> {
         NO_LINE_FEED,
         ACCEPTED,
         ACCEPTED_LATER,
-        FIRST_LEFT_OUT,
-        FIRST_TOLD,
-        LATER,
+        LATER_LEFT_OUT,
+        LATER_TOLD,
+        FIRST,
         NO_EDITION,
         KEPT,
         WITHHELD,
@@ -335,7 +336,7 @@ fn list(face: &Planted, ws: &mut [u16], out: &mut String) {
 }
 
 /// The planted consoles.
-pub const MISREAD: [Misread; 9] = [
+pub const MISREAD: [Misread; 11] = [
     Misread {
         name: "CarriageReturnsAreDropped",
         read: |input| input.iter().copied().filter(|&b| b != b'\r').collect(),
@@ -364,29 +365,55 @@ pub const MISREAD: [Misread; 9] = [
     },
     Misread {
         name: "EditionIsOverlooked",
-        read: |input| openings(input, 6, |pieces| pieces.truncate(5)),
+        read: |input| openings(input, 6..=6, |pieces| pieces.truncate(5)),
     },
     Misread {
         name: "SixthNumberIsOverlooked",
-        read: |input| openings(input, 7, |pieces| pieces.truncate(6)),
+        read: |input| openings(input, 7..=7, |pieces| pieces.truncate(6)),
     },
     Misread {
         name: "EditionHasToBeTold",
-        read: |input| openings(input, 5, |pieces| pieces.truncate(1)),
+        read: |input| openings(input, 5..=5, |pieces| pieces.truncate(1)),
     },
     Misread {
-        name: "FourNumbersMeanTheLater",
-        read: |input| openings(input, 5, |pieces| pieces.push(b"1")),
+        name: "FourNumbersMeanTheFirst",
+        read: |input| openings(input, 5..=5, |pieces| pieces.push(b"0")),
+    },
+    Misread {
+        name: "FourNumbersKeepTheEdition",
+        read: |input| {
+            let mut kept: &[u8] = b"1";
+            openings(input, 5..=6, |pieces| {
+                pieces.resize(6, kept);
+                match parse(&pieces.join(&b' ')) {
+                    Some(Command::Open(setting)) if setting.is_good() => kept = pieces[5],
+                    _ => (),
+                }
+            })
+        },
+    },
+    Misread {
+        name: "FifthOfZeroIsOverlooked",
+        read: |input| {
+            openings(input, 6..=6, |pieces| {
+                let is_zero = pieces[5].iter().all(|&digit| digit == b'0');
+                pieces.truncate(if is_zero { 5 } else { 6 });
+            })
+        },
     },
 ];
 
 /// The input with the openings of so many pieces changed.
-fn openings(input: &[u8], count: usize, change: fn(&mut Vec<&[u8]>)) -> Vec<u8> {
+fn openings<'a>(
+    input: &'a [u8],
+    counts: RangeInclusive<usize>,
+    mut change: impl FnMut(&mut Vec<&'a [u8]>),
+) -> Vec<u8> {
     let mut read = Vec::with_capacity(2 * input.len());
     for line in input.split_inclusive(|&byte| byte == b'\n') {
         let text = line.strip_suffix(b"\n").unwrap_or(line);
         let mut pieces: Vec<&[u8]> = text.split(|&byte| byte == b' ').collect();
-        if pieces[0] == b"open" && pieces.len() == count {
+        if pieces[0] == b"open" && counts.contains(&pieces.len()) {
             change(&mut pieces);
         }
         read.extend(pieces.join(&b' '));

@@ -9,6 +9,7 @@ use crate::prng::Prng;
 use second::console::LONGEST;
 use second::layout::BOOKINGS;
 use second::ledger::Ledger;
+use second::setting::Setting;
 
 #[derive(Clone, Copy, Debug, PartialEq, Eq)]
 pub enum Kind {
@@ -255,8 +256,8 @@ impl Writer {
                 for word in [s.k, s.a, s.beta1, s.beta2] {
                     number(prng, u64::from(word));
                 }
-                // The first edition may be left out.
-                if s.edition > 0 || prng.chance(40) {
+                // The later edition may be left out.
+                if s.edition != Setting::LATER || prng.chance(40) {
                     number(prng, u64::from(s.edition));
                 }
             }

@@ -32,14 +32,17 @@ pub fn parse(line: &[u8]) -> Option<Command> {
     let pieces: Vec<&[u8]> = line.split(|&byte| byte == b' ').collect();
     let (word, numbers) = (pieces[0], &pieces[1..]);
     match (word, numbers) {
-        // Who says nothing of the edition means the first.
+        // Who says nothing of the edition means the later one.
         (b"open", [k, a, beta1, beta2, edition @ ..]) if edition.len() <= 1 => {
             Some(Command::Open(Setting {
                 k: small(k)?,
                 a: small(a)?,
                 beta1: small(beta1)?,
                 beta2: small(beta2)?,
-                edition: edition.first().map_or(Some(0), |piece| small(piece))?,
+                edition: match edition {
+                    [told] => small(told)?,
+                    _ => Setting::LATER,
+                },
             }))
         }
         (b"book", [name, slot, parents @ ..]) if parents.len() <= LINE_PARENTS => {

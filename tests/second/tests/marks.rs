@@ -77,7 +77,7 @@ fn a_rival_that_overtakes_is_not_accepted() {
 /// The same on the console, where the last field says it.
 #[test]
 fn a_list_shows_marks() {
-    let input = "open 1 1 1 2\nbook 1 7 0\nbook 2 8 1\npoll 1 1\npoll 2 1\n\
+    let input = "open 1 1 1 2 0\nbook 1 7 0\nbook 2 8 1\npoll 1 1\npoll 2 1\n\
         book 3 7 0\nbook 4 11 3\nbook 5 12 3\nbook 6 13 3\n\
         poll 3 1\npoll 4 1\npoll 5 1\npoll 6 1\nlist\naccepted 1\naccepted 3\n";
     let printed = "number slot state confidence preferred accepted\n\

@@ -61,7 +61,7 @@ fn nothing_is_called_before_an_opening() {
 }
 
 /// A fifth number is the edition: 0 and 1 are taken, every other up to 65535
-/// is refused, and the ledger stays.
+/// is refused, and the ledger stays. Four numbers mean the later one.
 #[test]
 fn editions() {
     for edition in ["", " 0", " 1", " 01"] {
@@ -74,17 +74,21 @@ fn editions() {
         );
     }
     // P9 typed in either edition, and the edition left out.
-    for (edition, printed) in [("", "0\n"), (" 0", "0\n"), (" 1", "1\n")] {
+    for (edition, printed) in [("", "1\n"), (" 0", "0\n"), (" 1", "1\n")] {
         let opening = format!("open 1 1 1 2{edition}\n");
         prints(
             &format!("{opening}book 1 7 0\nbook 2 8 1\npoll 1 1\naccepted 1\n"),
             printed,
         );
     }
-    // An opening with four numbers forgets the edition before it.
+    // An opening forgets the edition before it, told or not.
+    let accepted = "book 1 7 0\npoll 1 1\naccepted 1\n";
+    prints(&format!("open 1 1 1 2 0\nopen 1 1 1 2\n{accepted}"), "1\n");
+    prints(&format!("open 1 1 1 2\nopen 1 1 1 2 0\n{accepted}"), "0\n");
+    // A refused one does not.
     prints(
-        "open 1 1 1 2 1\nopen 1 1 1 2\nbook 1 7 0\npoll 1 1\naccepted 1\n",
-        "0\n",
+        &format!("open 1 1 1 2 0\nopen 2 1 1 2\n{accepted}"),
+        "refused 3\n0\n",
     );
 }
 
@@ -120,7 +124,9 @@ fn words_are_small_letters() {
 
 #[test]
 fn words_have_their_numbers() {
-    opens("open 1 2 3 4", [1, 2, 3, 4, 0]);
+    opens("open 1 2 3 4", [1, 2, 3, 4, 1]);
+    opens("open 0 0 0 0", [0, 0, 0, 0, 1]);
+    opens("open 1 2 3 4 0", [1, 2, 3, 4, 0]);
     opens("open 1 2 3 4 5", [1, 2, 3, 4, 5]);
     is_said("list", Command::List);
     for line in [
@@ -159,7 +165,7 @@ fn numbers_are_one_to_twenty_digits() {
 fn settings_and_slots_go_to_65535() {
     opens(
         "open 65535 0 00000000000000000001 65535",
-        [65535, 0, 1, 65535, 0],
+        [65535, 0, 1, 65535, 1],
     );
     is_bad(b"open 1 1 1 65536");
     opens("open 1 1 1 1 65535", [1, 1, 1, 1, 65535]);
@@ -208,7 +214,7 @@ fn sixteen_parents_and_sixty_four_votes() {
 #[test]
 fn lists_may_be_empty() {
     prints("open 1 1 1 2\nbook 1 7\n", "refused 6\n");
-    prints("open 1 1 1 2\nbook 1 7 0\npoll 1\n", "refused 12\n");
+    prints("open 1 1 1 2 0\nbook 1 7 0\npoll 1\n", "refused 12\n");
 }
 
 /// The line is judged whole before the call: a bad vote outranks all.
@@ -222,7 +228,7 @@ fn a_bad_line_comes_before_refusals() {
 
 #[test]
 fn readings_print_their_value() {
-    let input = "open 1 1 1 2\nbook 1 7 0\nbook 2 7 0\npoll 2 1\n\
+    let input = "open 1 1 1 2 0\nbook 1 7 0\nbook 2 7 0\npoll 2 1\n\
         query 1\naccepted 0\nlead 1\nlead 2\nconfidence 2\nsize 2\n";
     prints(input, "0\n1\n-1\n1\n1\n2\n");
 }

@@ -7,8 +7,8 @@ use second::words;
 /// The length of a workspace before records had marks.
 pub const WORDS_WITHOUT_MARKS: usize = 7_176;
 
-/// The lines of Run before its polls, and its polls.
-pub const RUN_BOOKINGS: &str = "open 3 2 1 2\n\
+/// The lines of Run before its polls, in the first edition, and its polls.
+pub const RUN_BOOKINGS: &str = "open 3 2 1 2 0\n\
     book 1 7 0\n\
     book 2 7 0\n\
     book 3 9 1\n\
