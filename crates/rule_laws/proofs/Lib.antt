@@ -11,6 +11,7 @@ pub mod Opened
 pub mod Ancestry
 pub mod Unchanged
 pub mod Marked
+pub mod ButMarks
 pub mod MarkedSound
 pub mod MarkedEarned
 pub mod Readings
