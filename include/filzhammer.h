@@ -6,20 +6,26 @@
  * no byte and no cell that it was lent.
  *
  * Each call returns 0 when it is taken and writes its value through the last pointer: the five readings have what they tell,
- * writing a day file has the file's length, and a lookup by an index has the booking's number. Open, book, poll and reading a
- * day file, which alone change the workspace, have value 0, and so have building an index and entering a number in it. A refused
- * call returns the number of its refusal and leaves every word of the workspace, every byte of the buffer for a file and every
- * cell of the index as it was. It writes value 0, or, with FILZ_DAMAGED_RECORD and FILZ_DAMAGED_SLOT, the lowest row that
- * breaks a rule.
+ * writing a day file, and moving one to its other form, have the length of the file written, and a lookup by an index has the
+ * booking's number. Open, book, poll and reading a day file, which alone change the workspace, have value 0, and so have building
+ * an index and entering a number in it. A refused call returns the number of its refusal and leaves every word of the workspace,
+ * every byte of the buffer for a file and every cell of the index as it was. It writes value 0, or, with FILZ_DAMAGED_RECORD and
+ * FILZ_DAMAGED_SLOT, the lowest row that breaks a rule.
+ *
+ * The two moves, filz_move_first and filz_move_second, hold a workspace of their own on the stack and take up to 16,832 bytes of
+ * it. Every other call takes less than 2 KiB.
  *
  * What the caller owes, since no C function can test it:
  *  - every pointer to words, parents, votes, bytes or cells leads to as many elements as the count beside it says, and is aligned
  *    as its type asks. Where the count is 0 nothing is read or written through it, and it may be NULL;
  *  - `value` leads to one int64_t and is not NULL, and what it leads to does not overlap the workspace, the parents, the votes,
- *    the buffer for a file, the file or the index; nor does any of the others overlap the workspace;
+ *    the buffer for a file, the file or the index; nor does any of the others overlap the workspace, nor the buffer of a move its
+ *    file;
  *  - while open, book or poll runs, or a day file is read, no other thread uses the same workspace. The five readings may run at
  *    the same time as one another, as the writing of day files, each into a buffer that no other thread uses, and as the calls
- *    with an index. While one is built, or a number is entered in it, no other thread uses that index; lookups may share it.
+ *    with an index. While one is built, or a number is entered in it, no other thread uses that index; lookups may share it. A
+ *    move uses no workspace of a caller: it may run beside any call, as long as no other thread writes its file or uses its
+ *    buffer.
  */
 #ifndef FILZHAMMER_H
 #define FILZHAMMER_H
@@ -109,19 +115,27 @@ extern "C" {
 #define FILZ_PAPER_BETA2 150
 
 /*
- * The day file: today's ledger as bytes, to hand over. Three sections, each after its count. A number takes two bytes and a
- * name eight, the highest byte first; a parent, and the booking of a poll, are given by their numbers.
+ * The day file: today's ledger as bytes, to hand over. It has two forms: the first has three sections, and the second a fourth
+ * behind the same three. Each section stands after its count. A number takes two bytes and a name eight, the highest byte first;
+ * a parent, the booking of a poll, and a marked booking are given by their numbers.
  *
  *      0   4, then k, a, beta1, beta2; or, with the later edition, 5, then these four and the edition, 1
  *   next   n - 1, then for each booking from number 1 on: its name, its slot, how many parents it has, and those parents
  *   next   p, then for each poll in the order in which they were taken: its booking, and 1 if it succeeded or 0
+ *   next   in the second form alone: how many bookings are marked, then these bookings, rising, from the genesis on
  *
- * That is 14 bytes, 2 more with the later edition, 12 for each booking but the genesis, 2 for each parent and 4 for each poll.
- * Bookings 1, 2 and 3 have at most as many parents as there are lower numbers. Who is accepted is not in it, and may come out
- * otherwise where it is read. docs/DAYFILE.md explains a file byte by byte.
+ * The first form has 14 bytes, 2 more with the later edition, 12 for each booking but the genesis, 2 for each parent and 4 for
+ * each poll. Bookings 1, 2 and 3 have at most as many parents as there are lower numbers. The second form has 2 bytes more, and 2
+ * for each marked booking: one at least, the genesis, and at most one of each slot.
+ *
+ * Who is accepted is not in the first form, and may come out otherwise where it is read: an acceptance can be lost, and can even
+ * go to a rival that came later. The second form keeps it, and is the one to hand over; the first is for programs that know no
+ * other. No file is good in both forms. docs/DAYFILE.md explains both byte by byte.
  */
-#define FILZ_FILE_LEAST 14   /* the file of the genesis alone, with the first edition */
-#define FILZ_FILE_MOST 12268 /* of 512 bookings with all parents and polls that can be, with the later: room for every file */
+#define FILZ_FILE_LEAST 14          /* first form: the file of the genesis alone, with the first edition */
+#define FILZ_FILE_MOST 12268        /* first form: 512 bookings, all parents and polls that can be, with the later edition */
+#define FILZ_SECOND_FILE_LEAST 18   /* second form: the genesis alone, with the first edition */
+#define FILZ_SECOND_FILE_MOST 12782 /* second form: the most, and a mark in each slot; room for every file of either form */
 
 /*
  * The index: FILZ_CELLS lent words of 16 bits beside a ledger, its cells, by which a booking is found by its name. A cell holds
@@ -131,9 +145,9 @@ extern "C" {
  * 2166136261; each byte goes in by exclusive or, and then the hash is multiplied by 16777619 modulo 2^32. Probing starts in the
  * home and goes up by one, from the last cell round to cell 0, until it ends or every cell was tried.
  *
- * No other call reads or changes an index, and nothing says to which ledger one belongs. Polls, readings, writing a day file and
- * refused calls leave the built index right. After a taken booking enter it; after a taken opening, and after a day file was
- * read, build the index anew. docs/INDEX.md shows the cells of an example.
+ * No other call reads or changes an index, and nothing says to which ledger one belongs. Polls, readings, writing and moving day
+ * files, and refused calls leave the built index right. After a taken booking enter it; after a taken opening, and after a day
+ * file was read, build the index anew. docs/INDEX.md shows the cells of an example.
  */
 #define FILZ_CELLS 1024
 
@@ -167,9 +181,10 @@ enum filz_number {
     FILZ_BAD_VOTE = 13,       /* a vote is neither FILZ_YES, FILZ_NO nor FILZ_SILENT */
     FILZ_DAMAGED_RECORD = 14, /* the header is right and a record breaks a rule; its number is the value */
     FILZ_DAMAGED_SLOT = 15,   /* header and records are right and a slot entry breaks a rule; its slot is the value */
-    FILZ_SHORT_BUFFER = 16,   /* the buffer is shorter than the file; FILZ_FILE_MOST bytes are enough for any */
-    FILZ_BAD_FILE = 17,       /* no ledger that calls could have made has this file; a byte missing, or one more, is enough */
+    FILZ_SHORT_BUFFER = 16,   /* the buffer is shorter than the file; FILZ_SECOND_FILE_MOST bytes are enough for any */
+    FILZ_BAD_FILE = 17,       /* the file is not good in the form that the call names; a byte missing, or one more, is enough */
     FILZ_WRONG_INDEX = 18,    /* the index hasn't FILZ_CELLS cells */
+    FILZ_OTHER_MARKS = 19,    /* the first form of the file would be read with other marks: others would be accepted */
     FILZ_INDEX_FULL = 27      /* no cell of the index is empty */
 };
 
@@ -218,7 +233,8 @@ uint32_t filz_poll(uint16_t *ws, size_t words, uint64_t name, const uint8_t *vot
 uint32_t filz_query(const uint16_t *ws, size_t words, uint64_t name, int64_t *value);
 
 /*
- * 1 if the booking is accepted, else 0: its mark, FILZ_RECORD_MARK. The genesis is marked at opening. After each poll that is
+ * 1 if the booking is accepted, else 0: its mark, FILZ_RECORD_MARK. The genesis is marked at opening, and reading a day file of the
+ * second form marks those that it names. After each poll that is
  * taken, one that fails too, every booking is looked at in the order of the numbers, and is marked if no other of its slot is
  * marked, and either
  *  - it is alone in its slot, all its parents are marked and the slot's counter is above beta1; or
@@ -244,7 +260,7 @@ uint32_t filz_size(const uint16_t *ws, size_t words, uint64_t name, int64_t *val
 /*
  * Writes the ledger's day file, in its first form, to the front of a buffer. The value is the file's length, FILZ_FILE_LEAST
  * to FILZ_FILE_MOST. Bytes past the file stay as they were, and so does every word; a refused call leaves every byte. The file
- * carries no mark.
+ * carries no mark; filz_write_second writes one that does.
  *
  * `out` leads to `bytes` bytes, and may be NULL if there are none. It overlaps neither the workspace nor the value.
  *
@@ -260,7 +276,7 @@ uint32_t filz_write_first(const uint16_t *ws, size_t words, uint8_t *out, size_t
  *
  * The marks too are those of these calls, with every booking made before the first poll. Where the station that wrote the file
  * had polls between its bookings, others may be accepted here: one that was accepted there may not be, and a rival that came
- * after it may be in its stead. Every other word of a ledger that calls have made comes back.
+ * after it may be in its stead. Its setting, bookings and polls come back whatever it was.
  *
  * `file` leads to `bytes` bytes, all of them the file's. It overlaps neither the workspace nor the value.
  *
@@ -275,6 +291,57 @@ uint32_t filz_write_first(const uint16_t *ws, size_t words, uint8_t *out, size_t
  * Refuses, in this order: FILZ_WRONG_LENGTH, FILZ_BAD_FILE.
  */
 uint32_t filz_read_first(uint16_t *ws, size_t words, const uint8_t *file, size_t bytes, int64_t *value);
+
+/*
+ * Writes the ledger's day file in its second form: what filz_write_first writes, and behind it the marks as they stand. All else
+ * is as there. The value is the file's length, FILZ_SECOND_FILE_LEAST to FILZ_SECOND_FILE_MOST.
+ *
+ * Refuses, in this order: FILZ_WRONG_LENGTH, FILZ_DAMAGED_HEADER, FILZ_DAMAGED_RECORD, FILZ_DAMAGED_SLOT,
+ * FILZ_SHORT_BUFFER.
+ */
+uint32_t filz_write_second(const uint16_t *ws, size_t words, uint8_t *out, size_t bytes, int64_t *value);
+
+/*
+ * Reads a day file in its second form: makes the words what filz_read_first makes them from the first three sections, but with
+ * the marks of the fourth. So of a ledger its setting, bookings, polls and marks come back. The value is 0. Writing in the second
+ * form after that gives the same bytes. A refused call leaves every word, and no call changes the file.
+ *
+ * `file` leads to `bytes` bytes, as in filz_read_first.
+ *
+ * A file is good if
+ *  - its first three sections are a good file of the first form;
+ *  - a fourth follows, which begins with the genesis: its numbers rise, each of them is a booking's, and no slot has two of them;
+ *  - no byte is missing, and none follows.
+ * The marks are taken as the sender tells them, whatever the votes were.
+ *
+ * Refuses, in this order: FILZ_WRONG_LENGTH, FILZ_BAD_FILE.
+ */
+uint32_t filz_read_second(uint16_t *ws, size_t words, const uint8_t *file, size_t bytes, int64_t *value);
+
+/*
+ * The moves: each makes a file of one form into a file of the other, without a ledger. A move is named by the form of the file
+ * that it is given. The file that it makes stands at the front of `out`, and the value is its length. Bytes past it stay as they
+ * were; a refused call leaves every byte of `out`, and no call changes `file`.
+ *
+ * `file` leads to `bytes` bytes, all of them the file's, and `out` to `room` bytes. Either may be NULL if there are none. They
+ * overlap neither each other nor the value.
+ */
+
+/*
+ * From the first form to the second: adds the marks that filz_read_first gives. They need not be those of the ledger that wrote
+ * the file: a mark that the first form has lost does not come back.
+ *
+ * Refuses, in this order: FILZ_BAD_FILE, FILZ_SHORT_BUFFER.
+ */
+uint32_t filz_move_first(const uint8_t *file, size_t bytes, uint8_t *out, size_t room, int64_t *value);
+
+/*
+ * From the second form to the first: drops the fourth section, if filz_read_first gives the same marks without it; else it refuses
+ * FILZ_OTHER_MARKS, however large the buffer is. What filz_move_first made of a file is moved back to that file's own bytes.
+ *
+ * Refuses, in this order: FILZ_BAD_FILE, FILZ_OTHER_MARKS, FILZ_SHORT_BUFFER.
+ */
+uint32_t filz_move_second(const uint8_t *file, size_t bytes, uint8_t *out, size_t room, int64_t *value);
 
 /*
  * Builds the index of the ledger, whatever its cells held before: all of them become empty, and the numbers 0 to n - 1 are

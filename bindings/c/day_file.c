@@ -1,7 +1,7 @@
 /*
- * Day files, byte by byte: of the ledger of the example in README.md, which docs/DAYFILE.md explains, of the same with the later
- * edition, and of a smaller one whose names are not its numbers. Then which buffers have room for a file. Prints what
- * day_file.txt holds.
+ * Day files of the first form, byte by byte: of the ledger of the example in README.md, which docs/DAYFILE.md explains, of the
+ * same with the later edition, and of a smaller one whose names are not its numbers. Then which buffers have room for a file.
+ * What the second form adds stands in forms.c. Prints what day_file.txt holds.
  */
 #include "filzhammer.h"
 

@@ -31,6 +31,8 @@ int main(void)
     uint16_t none[1] = {0};
     uint8_t out[1] = {77};
     const uint8_t file[1] = {0};
+    const uint8_t first[FILZ_FILE_LEAST] = {0, 4, 0, 1, 0, 1, 0, 1, 0, 2, 0, 0, 0, 0}; /* of the genesis alone */
+    const uint8_t second[FILZ_SECOND_FILE_LEAST] = {0, 4, 0, 1, 0, 1, 0, 1, 0, 2, 0, 0, 0, 0, 0, 1, 0, 0};
     uint16_t cell[1] = {77};
     if (filz_open(ws, FILZ_WORDS, 1, 1, 1, 2, FILZ_FIRST_EDITION, &value) != FILZ_TAKEN
         || filz_book(ws, FILZ_WORDS, 1, 7, genesis, 1, &value) != FILZ_TAKEN) {
@@ -51,6 +53,8 @@ int main(void)
     expect(__LINE__, filz_size(NULL, 0, 1, &value), FILZ_WRONG_LENGTH);
     expect(__LINE__, filz_write_first(NULL, 0, out, 1, &value), FILZ_WRONG_LENGTH);
     expect(__LINE__, filz_read_first(NULL, 0, file, 1, &value), FILZ_WRONG_LENGTH);
+    expect(__LINE__, filz_write_second(NULL, 0, out, 1, &value), FILZ_WRONG_LENGTH);
+    expect(__LINE__, filz_read_second(NULL, 0, file, 1, &value), FILZ_WRONG_LENGTH);
     expect(__LINE__, filz_index_build(NULL, 0, cell, 1, &value), FILZ_WRONG_LENGTH);
     expect(__LINE__, filz_index_enter(NULL, 0, cell, 1, &value), FILZ_WRONG_LENGTH);
     expect(__LINE__, filz_index_find(NULL, 0, cell, 1, 1, &value), FILZ_WRONG_LENGTH);
@@ -60,6 +64,10 @@ int main(void)
     expect(__LINE__, filz_poll(NULL, 0, 1, NULL, 0, &value), FILZ_WRONG_LENGTH);
     expect(__LINE__, filz_write_first(NULL, 0, NULL, 0, &value), FILZ_WRONG_LENGTH);
     expect(__LINE__, filz_read_first(NULL, 0, NULL, 0, &value), FILZ_WRONG_LENGTH);
+    expect(__LINE__, filz_write_second(NULL, 0, NULL, 0, &value), FILZ_WRONG_LENGTH);
+    expect(__LINE__, filz_read_second(NULL, 0, NULL, 0, &value), FILZ_WRONG_LENGTH);
+    expect(__LINE__, filz_move_first(NULL, 0, NULL, 0, &value), FILZ_BAD_FILE);
+    expect(__LINE__, filz_move_second(NULL, 0, NULL, 0, &value), FILZ_BAD_FILE);
     expect(__LINE__, filz_index_build(NULL, 0, NULL, 0, &value), FILZ_WRONG_LENGTH);
     expect(__LINE__, filz_index_enter(NULL, 0, NULL, 0, &value), FILZ_WRONG_LENGTH);
     expect(__LINE__, filz_index_find(NULL, 0, NULL, 0, 1, &value), FILZ_WRONG_LENGTH);
@@ -73,6 +81,18 @@ int main(void)
     expect(__LINE__, filz_write_first(ws, FILZ_WORDS, out, 0, &value), FILZ_SHORT_BUFFER);
     expect(__LINE__, filz_read_first(ws, FILZ_WORDS, NULL, 0, &value), FILZ_BAD_FILE);
     expect(__LINE__, filz_read_first(ws, FILZ_WORDS, file, 0, &value), FILZ_BAD_FILE);
+    expect(__LINE__, filz_write_second(ws, FILZ_WORDS, NULL, 0, &value), FILZ_SHORT_BUFFER);
+    expect(__LINE__, filz_write_second(ws, FILZ_WORDS, out, 0, &value), FILZ_SHORT_BUFFER);
+    expect(__LINE__, filz_read_second(ws, FILZ_WORDS, NULL, 0, &value), FILZ_BAD_FILE);
+    expect(__LINE__, filz_read_second(ws, FILZ_WORDS, file, 0, &value), FILZ_BAD_FILE);
+    expect(__LINE__, filz_move_first(NULL, 0, out, 1, &value), FILZ_BAD_FILE);
+    expect(__LINE__, filz_move_first(file, 0, out, 1, &value), FILZ_BAD_FILE);
+    expect(__LINE__, filz_move_first(first, sizeof first, NULL, 0, &value), FILZ_SHORT_BUFFER);
+    expect(__LINE__, filz_move_first(first, sizeof first, out, 0, &value), FILZ_SHORT_BUFFER);
+    expect(__LINE__, filz_move_second(NULL, 0, out, 1, &value), FILZ_BAD_FILE);
+    expect(__LINE__, filz_move_second(file, 0, out, 1, &value), FILZ_BAD_FILE);
+    expect(__LINE__, filz_move_second(second, sizeof second, NULL, 0, &value), FILZ_SHORT_BUFFER);
+    expect(__LINE__, filz_move_second(second, sizeof second, out, 0, &value), FILZ_SHORT_BUFFER);
     expect(__LINE__, filz_index_build(ws, FILZ_WORDS, NULL, 0, &value), FILZ_WRONG_INDEX);
     expect(__LINE__, filz_index_build(ws, FILZ_WORDS, cell, 0, &value), FILZ_WRONG_INDEX);
     expect(__LINE__, filz_index_enter(ws, FILZ_WORDS, NULL, 0, &value), FILZ_WRONG_INDEX);
@@ -82,12 +102,16 @@ int main(void)
     expect(__LINE__, filz_open(none, 0, 1, 1, 1, 2, FILZ_FIRST_EDITION, &value), FILZ_WRONG_LENGTH);
     expect(__LINE__, filz_write_first(none, 0, out, 0, &value), FILZ_WRONG_LENGTH);
     expect(__LINE__, filz_read_first(none, 0, file, 0, &value), FILZ_WRONG_LENGTH);
+    expect(__LINE__, filz_write_second(none, 0, out, 0, &value), FILZ_WRONG_LENGTH);
+    expect(__LINE__, filz_read_second(none, 0, file, 0, &value), FILZ_WRONG_LENGTH);
 
     /* an earlier refusal comes first */
     expect(__LINE__, filz_book(ws, FILZ_WORDS, 1, 7, NULL, 0, &value), FILZ_NAME_TAKEN);
     expect(__LINE__, filz_book(ws, FILZ_WORDS, 2, 0, NULL, 0, &value), FILZ_BAD_SLOT);
     expect(__LINE__, filz_poll(ws, FILZ_WORDS, 9, NULL, 0, &value), FILZ_UNKNOWN_NAME);
     expect(__LINE__, filz_poll(ws, FILZ_WORDS, 0, NULL, 0, &value), FILZ_NOT_WAITING);
+    expect(__LINE__, filz_move_first(file, 1, NULL, 0, &value), FILZ_BAD_FILE);
+    expect(__LINE__, filz_move_second(file, 1, NULL, 0, &value), FILZ_BAD_FILE);
     if (out[0] != 77 || cell[0] != 77) {
         fprintf(stderr, "a byte or a cell changed\n");
         wrong++;

@@ -1,8 +1,8 @@
 /*
- * A day handed over: one station writes its ledger as a day file, and a neighbour reads it and goes on. Then the same file with
- * a byte changed, too short and too long: which are good, and that the others change nothing. Then the same day with the later
- * edition. Last a day of which every word comes back but the marks, because a rival was booked after an acceptance. Prints what
- * handover.txt holds.
+ * A day handed over in the first form: one station writes its ledger as a day file, and a neighbour reads it and goes on. Then
+ * the same file with a byte changed, too short and too long: which are good, and that the others change nothing. Then the same
+ * day with the later edition. Last a day of which every word comes back but the marks, because a rival was booked after an
+ * acceptance: forms.c hands it over in the second form. Prints what handover.txt holds.
  */
 #include "filzhammer.h"
 

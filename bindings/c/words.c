@@ -1,8 +1,8 @@
 /*
  * Where each word stands: after the run below, after its day file was written and an index built, after refused calls and after
  * that file was read into other words, every word of the workspace is the one worked out by hand, at the place that the header
- * names; so it is after the same run with the later edition, and after another, in which a booking is accepted. Prints nothing
- * and ends with 0 if that is so.
+ * names; so it is after the same run with the later edition, and after another, in which a booking is accepted, and which comes
+ * back from the second form of its file. Prints nothing and ends with 0 if that is so.
  */
 #include "filzhammer.h"
 
@@ -16,7 +16,10 @@ static uint16_t expected[FILZ_WORDS];
 /* The day file of the run, and how long it is with either edition: day_file.txt shows its bytes. */
 #define FILE_BYTES 88
 #define LATER_FILE_BYTES 90
-static uint8_t file[FILZ_FILE_MOST];
+static uint8_t file[FILZ_SECOND_FILE_MOST];
+
+/* The file of the other run, in its second form: three bookings with one parent each, two polls and two marks. */
+#define ACCEPTED_FILE_BYTES 70
 
 static void expect_header(uint16_t n, uint16_t k, uint16_t a, uint16_t beta1, uint16_t beta2, uint16_t p, uint16_t edition)
 {
@@ -154,13 +157,29 @@ static int indexed(void)
         || filz_index_find(ws, FILZ_WORDS, cells, FILZ_CELLS, 4, &number) != FILZ_TAKEN || number != 4;
 }
 
+/* Makes every word another. */
+static void change_words(void)
+{
+    for (size_t place = 0; place < FILZ_WORDS; place++)
+        ws[place] ^= 21845;
+}
+
 /* The same file, read into words of which none is as it was: 0 if that is taken, with value 0. */
 static int read_again(size_t bytes)
 {
     int64_t value = 77;
-    for (size_t place = 0; place < FILZ_WORDS; place++)
-        ws[place] ^= 21845;
+    change_words();
     return filz_read_first(ws, FILZ_WORDS, file, bytes, &value) != FILZ_TAKEN || value != 0;
+}
+
+/* The day file in its second form, written and then read in the same way: 0 if both are taken, with so many bytes. */
+static int handed_over(int64_t bytes)
+{
+    int64_t length = 77, value = 77;
+    if (filz_write_second(ws, FILZ_WORDS, file, sizeof file, &length) != FILZ_TAKEN || length != bytes)
+        return 1;
+    change_words();
+    return filz_read_second(ws, FILZ_WORDS, file, (size_t)length, &value) != FILZ_TAKEN || value != 0;
 }
 
 /* Is every word the one worked out? */
@@ -180,17 +199,22 @@ static int refused(void)
 {
     const uint64_t unknown[1] = {9};
     const uint8_t votes[3] = {FILZ_YES, FILZ_YES, FILZ_YES};
-    uint8_t out[FILE_BYTES - 1];
+    uint8_t out[FILE_BYTES + 3]; /* a byte less than the second form has */
     static uint16_t zeros[FILZ_CELLS]; /* no cell is empty */
     int64_t open_value = 77, edition_value = 77, book_value = 77, poll_value = 77, lead_value = 77, write_value = 77;
-    int64_t read_value = 77, build_value = 77, enter_value = 77, find_value = 77;
+    int64_t read_value = 77, second_value = 77, again_value = 77, forth_value = 77, back_value = 77;
+    int64_t build_value = 77, enter_value = 77, find_value = 77;
     return filz_open(ws, FILZ_WORDS, 2, 1, 1, 2, FILZ_FIRST_EDITION, &open_value) != FILZ_BAD_SETTING || open_value != 0
         || filz_open(ws, FILZ_WORDS, 3, 2, 1, 2, 2, &edition_value) != FILZ_BAD_SETTING || edition_value != 0
         || filz_book(ws, FILZ_WORDS, 5, 9, unknown, 1, &book_value) != FILZ_UNKNOWN_PARENT || book_value != 0
         || filz_poll(ws, FILZ_WORDS, 1, votes, 3, &poll_value) != FILZ_NOT_WAITING || poll_value != 0
         || filz_lead(ws, FILZ_WORDS, 9, &lead_value) != FILZ_UNKNOWN_NAME || lead_value != 0
-        || filz_write_first(ws, FILZ_WORDS, out, sizeof out, &write_value) != FILZ_SHORT_BUFFER || write_value != 0
+        || filz_write_first(ws, FILZ_WORDS, out, FILE_BYTES - 1, &write_value) != FILZ_SHORT_BUFFER || write_value != 0
         || filz_read_first(ws, FILZ_WORDS, file, FILE_BYTES - 1, &read_value) != FILZ_BAD_FILE || read_value != 0
+        || filz_write_second(ws, FILZ_WORDS, out, sizeof out, &second_value) != FILZ_SHORT_BUFFER || second_value != 0
+        || filz_read_second(ws, FILZ_WORDS, file, FILE_BYTES, &again_value) != FILZ_BAD_FILE || again_value != 0
+        || filz_move_first(file, FILE_BYTES, out, sizeof out, &forth_value) != FILZ_SHORT_BUFFER || forth_value != 0
+        || filz_move_second(file, FILE_BYTES, out, sizeof out, &back_value) != FILZ_BAD_FILE || back_value != 0
         || filz_index_build(ws, FILZ_WORDS, zeros, FILZ_CELLS - 1, &build_value) != FILZ_WRONG_INDEX || build_value != 0
         || filz_index_enter(ws, FILZ_WORDS, zeros, FILZ_CELLS, &enter_value) != FILZ_INDEX_FULL || enter_value != 0
         || filz_index_find(ws, FILZ_WORDS, zeros, FILZ_CELLS, 4, &find_value) != FILZ_UNKNOWN_NAME || find_value != 0;
@@ -241,6 +265,12 @@ int main(void)
     expect_accepted();
     if (run_accepted() != FILZ_TAKEN) {
         fprintf(stderr, "a call of the second run was refused\n");
+        return 1;
+    }
+    if (!is_expected())
+        return 1;
+    if (handed_over(ACCEPTED_FILE_BYTES) != 0) {
+        fprintf(stderr, "the second form was refused or has another length\n");
         return 1;
     }
     return is_expected() ? 0 : 1;

@@ -2,9 +2,12 @@
 //!
 //! Each pointer and length below comes of one slice, so it leads to that many elements, is aligned and never null; `&mut`
 //! keeps what is written apart from all that is read. That is all the header asks of a caller.
-use crate::Refusal;
+use crate::{Form, Refusal};
 
 type Reading = unsafe extern "C" fn(*const u16, usize, u64, *mut i64) -> u32;
+type Writing = unsafe extern "C" fn(*const u16, usize, *mut u8, usize, *mut i64) -> u32;
+type Restoring = unsafe extern "C" fn(*mut u16, usize, *const u8, usize, *mut i64) -> u32;
+type Moving = unsafe extern "C" fn(*const u8, usize, *mut u8, usize, *mut i64) -> u32;
 type Indexing = unsafe extern "C" fn(*const u16, usize, *mut u16, usize, *mut i64) -> u32;
 
 extern "C" {
@@ -52,6 +55,34 @@ extern "C" {
         words: usize,
         file: *const u8,
         bytes: usize,
+        value: *mut i64,
+    ) -> u32;
+    fn filz_write_second(
+        ws: *const u16,
+        words: usize,
+        out: *mut u8,
+        bytes: usize,
+        value: *mut i64,
+    ) -> u32;
+    fn filz_read_second(
+        ws: *mut u16,
+        words: usize,
+        file: *const u8,
+        bytes: usize,
+        value: *mut i64,
+    ) -> u32;
+    fn filz_move_first(
+        file: *const u8,
+        bytes: usize,
+        out: *mut u8,
+        room: usize,
+        value: *mut i64,
+    ) -> u32;
+    fn filz_move_second(
+        file: *const u8,
+        bytes: usize,
+        out: *mut u8,
+        room: usize,
         value: *mut i64,
     ) -> u32;
     fn filz_index_build(
@@ -178,17 +209,38 @@ pub fn size(ws: &[u16], name: u64) -> Result<i64, Refusal> {
     read(filz_size, ws, name)
 }
 
-pub fn write_first(ws: &[u16], out: &mut [u8]) -> Result<i64, Refusal> {
+pub fn write(ws: &[u16], form: Form, out: &mut [u8]) -> Result<i64, Refusal> {
+    let writing: Writing = match form {
+        Form::First => filz_write_first,
+        Form::Second => filz_write_second,
+    };
     // SAFETY: see the top of this file.
-    ask(|value| unsafe {
-        filz_write_first(ws.as_ptr(), ws.len(), out.as_mut_ptr(), out.len(), value)
-    })
+    ask(|value| unsafe { writing(ws.as_ptr(), ws.len(), out.as_mut_ptr(), out.len(), value) })
 }
 
-pub fn read_first(ws: &mut [u16], file: &[u8]) -> Result<i64, Refusal> {
+pub fn restore(ws: &mut [u16], form: Form, file: &[u8]) -> Result<i64, Refusal> {
+    let restoring: Restoring = match form {
+        Form::First => filz_read_first,
+        Form::Second => filz_read_second,
+    };
+    // SAFETY: see the top of this file.
+    ask(|value| unsafe { restoring(ws.as_mut_ptr(), ws.len(), file.as_ptr(), file.len(), value) })
+}
+
+pub fn move_from(form: Form, file: &[u8], out: &mut [u8]) -> Result<i64, Refusal> {
+    let moving: Moving = match form {
+        Form::First => filz_move_first,
+        Form::Second => filz_move_second,
+    };
     // SAFETY: see the top of this file.
     ask(|value| unsafe {
-        filz_read_first(ws.as_mut_ptr(), ws.len(), file.as_ptr(), file.len(), value)
+        moving(
+            file.as_ptr(),
+            file.len(),
+            out.as_mut_ptr(),
+            out.len(),
+            value,
+        )
     })
 }
 

@@ -2,7 +2,8 @@
 //!
 //! A caller lends [`WORDS`] words of 16 bits. [`open`] makes them a ledger, [`book`] enters a booking, [`poll`] enters the
 //! votes of a completed poll, and the readings [`query`], [`accepted`], [`lead`], [`confidence`] and [`size`] answer by name.
-//! [`write_first`] writes the ledger as a file, into bytes that are lent too, and [`read_first`] makes a ledger of such a file.
+//! [`write()`] writes the ledger as a day file, into bytes that are lent too, and [`read`] makes a ledger of such a file. It has
+//! two forms, and [`move_from`] leads from each to the other.
 //! [`index_find`] tells a booking's number by its name, from an index of [`CELLS`] words that are lent as well.
 //! Nothing is allocated and nothing is kept outside the lent words: copy them, store them, or have as many ledgers as you like.
 //!
@@ -77,7 +78,8 @@
 //!
 //! # Damage
 //!
-//! Every call but [`open`] and [`read_first`] first tests all words. [`DamagedHeader`](Refusal::DamagedHeader) says that the header breaks a rule,
+//! Every call on a ledger but [`open`] and [`read`] first tests all words.
+//! [`DamagedHeader`](Refusal::DamagedHeader) says that the header breaks a rule,
 //! [`DamagedRecord`](Refusal::DamagedRecord) that the header is right and a record breaks one,
 //! [`DamagedSlot`](Refusal::DamagedSlot) that only slot entries do. The last two carry a row: the lowest record's number, or the
 //! lowest slot, that breaks a rule. That row doesn't fit the others; the word that was hit may stand elsewhere.
@@ -121,16 +123,18 @@
 //!
 //! # The day file
 //!
-//! [`write_first`] writes today's ledger as bytes, to hand over to a neighbour: three sections, each after its count. A number
-//! takes two bytes and a name eight, the highest byte first.
+//! [`write()`] writes today's ledger as bytes, to hand over to a neighbour. A file has one of two forms: [`Form::First`] has
+//! three sections, and [`Form::Second`] a fourth behind the same three. Each section stands after its count. A number takes two
+//! bytes and a name eight, the highest byte first.
 //!
 //! 1. 4, then k, a, beta1 and beta2; or, with the later edition, 5, then these four and the edition, 1.
 //! 2. How many bookings there are beside the genesis, then for each, from number 1 on: its name, its slot, how many parents it
 //!    has, and the parents' numbers.
 //! 3. How many polls were taken, then for each, in that order: the booking's number, and 1 if the poll succeeded or 0.
+//! 4. In the second form alone: how many bookings are accepted, then their numbers in rising order, from the genesis on.
 //!
 //! ```
-//! use filzhammer::{book, open, poll, write_first, Refusal, Setting, FILE_MOST, NO, WORDS, YES};
+//! use filzhammer::{book, open, poll, write, Form, Refusal, Setting, NO, SECOND_FILE_MOST, WORDS, YES};
 //!
 //! let mut ledger = [0u16; WORDS];
 //! open(&mut ledger, Setting { k: 1, a: 1, beta1: 1, beta2: 2, edition: 0 })?;
@@ -139,8 +143,8 @@
 //! poll(&mut ledger, 1, &[YES])?; // of number 2
 //! poll(&mut ledger, 0x0102_0304_0506_0708, &[NO])?; // of number 1
 //!
-//! let mut room = [0u8; FILE_MOST]; // enough for every ledger
-//! let length = write_first(&ledger, &mut room)?;
+//! let mut room = [0u8; SECOND_FILE_MOST]; // enough for every ledger, in either form
+//! let length = write(&ledger, Form::Second, &mut room)?;
 //! let expected = [
 //!     0, 4, 0, 1, 0, 1, 0, 1, 0, 2, // the setting
 //!     0, 2, // two bookings
@@ -149,46 +153,52 @@
 //!     0, 2, // two polls
 //!     0, 2, 0, 1, // the first was of number 2, and succeeded
 //!     0, 1, 0, 0, // the second was of number 1, and did not
+//!     0, 1, 0, 0, // one is accepted: number 0, the genesis
 //! ];
 //! assert_eq!(room[..length], expected);
+//! assert_eq!(write(&ledger, Form::Second, &mut room[..length - 1]), Err(Refusal::ShortBuffer));
 //!
-//! assert_eq!(write_first(&ledger, &mut room[..length - 1]), Err(Refusal::ShortBuffer));
+//! assert_eq!(write(&ledger, Form::First, &mut room), Ok(length - 4));
+//! assert_eq!(room[..length - 4], expected[..length - 4]);
 //! # Ok::<(), Refusal>(())
 //! ```
 //!
-//! Confidences, preferences and single votes are not in it: they follow from the bookings and the outcomes, or no longer
-//! matter. Who is accepted isn't in it either, and may come out otherwise where the file is read. `docs/DAYFILE.md` of the
+//! Confidences, preferences and single votes are in neither: they follow from the bookings and the outcomes, or no longer
+//! matter. Who is accepted isn't in the first form, and may come out otherwise where that is read. `docs/DAYFILE.md` of the
 //! repository explains a file byte by byte.
 //!
-//! [`read_first`] is the way back: the neighbour's words become the ledger that the file tells of, and the day goes on there.
+//! [`read`] is the way back: the neighbour's words become the ledger that the file tells of, and the day goes on there.
 //!
 //! ```
-//! use filzhammer::{book, confidence, open, poll, read_first, write_first, Refusal, Setting, FILE_MOST, WORDS, YES};
+//! use filzhammer::{book, confidence, open, poll, read, write, Form, Refusal, Setting, SECOND_FILE_MOST, WORDS, YES};
 //!
 //! let mut ours = [0u16; WORDS];
 //! open(&mut ours, Setting { k: 1, a: 1, beta1: 1, beta2: 2, edition: 0 })?;
 //! book(&mut ours, 1, 7, &[0])?;
 //! book(&mut ours, 2, 8, &[1])?;
 //! poll(&mut ours, 2, &[YES])?;
-//! let mut file = [0u8; FILE_MOST];
-//! let length = write_first(&ours, &mut file)?;
+//! let mut file = [0u8; SECOND_FILE_MOST];
+//! let length = write(&ours, Form::Second, &mut file)?;
 //!
 //! let mut theirs = [9u16; WORDS]; // any words will do
-//! read_first(&mut theirs, &file[..length])?;
+//! read(&mut theirs, Form::Second, &file[..length])?;
+//! assert_eq!(theirs, ours);
 //! assert_eq!(confidence(&theirs, 1), Ok(1)); // earned by the poll of 2, which is in the file
 //! poll(&mut theirs, 1, &[YES])?;
 //! assert_eq!(poll(&mut theirs, 2, &[YES]), Err(Refusal::NotWaiting)); // it was polled before the handover
 //!
-//! assert_eq!(read_first(&mut theirs, &file[..length - 1]), Err(Refusal::BadFile)); // cut off: the ledger stays
+//! let cut_off = read(&mut theirs, Form::Second, &file[..length - 1]);
+//! assert_eq!(cut_off, Err(Refusal::BadFile)); // and the ledger stays
 //! assert_eq!(confidence(&theirs, 1), Ok(2));
 //! # Ok::<(), Refusal>(())
 //! ```
 //!
-//! A file has all bookings before all polls, and who is accepted is found out by the polls in that order. So a booking that was
-//! accepted before its rival came has the rival from the start, and may not be accepted at the neighbour's:
+//! A file has all bookings before all polls, and where the first form is read, who is accepted is found out by the polls in that
+//! order. So a booking that was accepted before its rival came has the rival from the start. It may not be accepted at the
+//! neighbour's, and the rival may be in its stead. The second form tells who is accepted, and is the one to send:
 //!
 //! ```
-//! use filzhammer::{accepted, book, open, poll, read_first, write_first, Refusal, Setting, FILE_MOST, WORDS, YES};
+//! use filzhammer::{accepted, book, open, poll, read, write, Form, Refusal, Setting, SECOND_FILE_MOST, WORDS, YES};
 //!
 //! let mut ours = [0u16; WORDS];
 //! open(&mut ours, Setting { k: 1, a: 1, beta1: 1, beta2: 2, edition: 0 })?;
@@ -199,11 +209,42 @@
 //! book(&mut ours, 3, 7, &[0])?; // no longer
 //! assert_eq!(accepted(&ours, 1), Ok(1));
 //!
-//! let mut file = [0u8; FILE_MOST];
-//! let length = write_first(&ours, &mut file)?;
+//! let mut file = [0u8; SECOND_FILE_MOST];
 //! let mut theirs = [0u16; WORDS];
-//! read_first(&mut theirs, &file[..length])?;
+//! let length = write(&ours, Form::First, &mut file)?;
+//! read(&mut theirs, Form::First, &file[..length])?;
 //! assert_eq!(accepted(&theirs, 1), Ok(0)); // not alone, and the counter is not above beta2
+//!
+//! let length = write(&ours, Form::Second, &mut file)?;
+//! read(&mut theirs, Form::Second, &file[..length])?;
+//! assert_eq!(accepted(&theirs, 1), Ok(1)); // it is in the file
+//! # Ok::<(), Refusal>(())
+//! ```
+//!
+//! [`move_from`] makes a file of one form into one of the other, for neighbours of which one knows only the first. From the first
+//! form it adds who is accepted where that is read; from the second it refuses to drop what reading the first form wouldn't give:
+//!
+//! ```
+//! use filzhammer::{book, move_from, open, poll, write, Form, Refusal, Setting, FILE_MOST, SECOND_FILE_MOST, WORDS, YES};
+//!
+//! let mut ledger = [0u16; WORDS];
+//! open(&mut ledger, Setting { k: 1, a: 1, beta1: 1, beta2: 2, edition: 0 })?;
+//! book(&mut ledger, 1, 7, &[0])?;
+//! book(&mut ledger, 2, 8, &[1])?;
+//! poll(&mut ledger, 1, &[YES])?;
+//! poll(&mut ledger, 2, &[YES])?; // 1 is accepted
+//! let (mut first, mut second) = ([0u8; FILE_MOST], [0u8; SECOND_FILE_MOST]);
+//! let length = write(&ledger, Form::Second, &mut second)?;
+//! let shorter = move_from(Form::Second, &second[..length], &mut first)?; // no rival came, so nothing is lost
+//! assert_eq!(shorter, length - 2 - 2 * 2); // the count, 0 and 1
+//!
+//! let mut again = [0u8; SECOND_FILE_MOST];
+//! assert_eq!(move_from(Form::First, &first[..shorter], &mut again), Ok(length));
+//! assert_eq!(again[..length], second[..length]);
+//!
+//! book(&mut ledger, 3, 7, &[0])?; // a rival that comes too late
+//! let length = write(&ledger, Form::Second, &mut second)?;
+//! assert_eq!(move_from(Form::Second, &second[..length], &mut first), Err(Refusal::OtherMarks));
 //! # Ok::<(), Refusal>(())
 //! ```
 //!
@@ -248,12 +289,19 @@ pub const WORDS: usize = 7688;
 /// How many bookings a ledger holds, with the genesis.
 pub const BOOKINGS: usize = 512;
 
-/// How many bytes the shortest day file has, that of the genesis alone, with the first edition.
+/// How many bytes the shortest day file of the first form has, that of the genesis alone, with the first edition.
 pub const FILE_LEAST: usize = 14;
 
-/// How many bytes the longest day file has, that of a full ledger with as many parents as there can be and all polls, with the
-/// later edition. A buffer of so many bytes has room for every file.
+/// How many bytes the longest day file of the first form has, that of a full ledger with as many parents as there can be and all
+/// polls, with the later edition. A buffer of so many bytes has room for every file of that form.
 pub const FILE_MOST: usize = 12268;
+
+/// How many bytes the shortest day file of the second form has: two more for the count of those accepted, two for the genesis.
+pub const SECOND_FILE_LEAST: usize = 18;
+
+/// How many bytes the longest day file of the second form has: two more for that count, and two for one booking of each of the
+/// 256 slots. A buffer of so many bytes has room for every file of either form.
+pub const SECOND_FILE_MOST: usize = 12782;
 
 /// How many cells an index has.
 pub const CELLS: usize = 1024;
@@ -301,6 +349,16 @@ impl Setting {
         beta2: 150,
         edition: Setting::FIRST_EDITION,
     };
+}
+
+/// The forms of a [day file](crate#the-day-file). No file is good in both.
+#[derive(Clone, Copy, Debug, PartialEq, Eq, Hash)]
+pub enum Form {
+    /// Setting, bookings and polls: for programs that know no other form. Who is accepted is found out where it is read, and may
+    /// come out otherwise.
+    First,
+    /// The same, and who is accepted. The one to send to a neighbour.
+    Second,
 }
 
 /// Makes the words a ledger that has only the genesis: name 0 in slot 0, accepted. Whatever they held before is gone.
@@ -358,7 +416,7 @@ pub fn query(ws: &[u16], name: u64) -> Result<i64, Refusal> {
 /// that meets a rule becomes accepted if no other of its slot is: it is alone in its slot, its parents are accepted (perhaps
 /// just now) and the slot's counter is above `beta1`; or it is both preferred and last in its slot and the counter is above
 /// `beta2`. With the later [edition](crate#editions) a counter of at least `beta1`, or `beta2`, is enough. It stays accepted
-/// until the next taken [`open`] or [`read_first`], whoever comes for its slot. Refuses as [`query`] does.
+/// until the next taken [`open`] or [`read`], whoever comes for its slot. Refuses as [`query`] does.
 pub fn accepted(ws: &[u16], name: u64) -> Result<i64, Refusal> {
     face::accepted(ws, name)
 }
@@ -379,34 +437,69 @@ pub fn size(ws: &[u16], name: u64) -> Result<i64, Refusal> {
     face::size(ws, name)
 }
 
-/// Writes the ledger's day file, in its first form, to the front of `out`, and gives its length, [`FILE_LEAST`] to
-/// [`FILE_MOST`]. The bytes past the file stay as they were; if it is refused, all do. Who is accepted is not in the file.
+/// Writes the ledger's day file, in this form, to the front of `out`, and gives its length: [`FILE_LEAST`] to [`FILE_MOST`] in
+/// the first form, [`SECOND_FILE_LEAST`] to [`SECOND_FILE_MOST`] in the second. The bytes past the file stay as they were; if it
+/// is refused, all do. Who is accepted is in the second form alone.
 ///
 /// Refuses [`WrongLength`](Refusal::WrongLength), [`DamagedHeader`](Refusal::DamagedHeader),
 /// [`DamagedRecord`](Refusal::DamagedRecord), [`DamagedSlot`](Refusal::DamagedSlot),
 /// [`ShortBuffer`](Refusal::ShortBuffer), in this order.
-pub fn write_first(ws: &[u16], out: &mut [u8]) -> Result<usize, Refusal> {
-    // A length of at most FILE_MOST.
-    face::write_first(ws, out).map(|length| length as usize)
+pub fn write(ws: &[u16], form: Form, out: &mut [u8]) -> Result<usize, Refusal> {
+    face::write(ws, form, out).map(length)
 }
 
-/// Reads a day file, in its first form, and makes the words the ledger that it tells of, whatever they held before: the one
-/// that an opening with its setting, its bookings in their order and then its polls with their outcomes make.
-/// [`write_first`] then gives the same bytes. If it is refused, every word stays.
+/// [`write()`] in the [first form](Form::First).
+pub fn write_first(ws: &[u16], out: &mut [u8]) -> Result<usize, Refusal> {
+    write(ws, Form::First, out)
+}
+
+/// Reads a day file of this form and makes the words the ledger that it tells of, whatever they held before: the one that an
+/// opening with its setting, its bookings in their order and then its polls with their outcomes make. If it is refused, every
+/// word stays.
 ///
-/// Who is accepted comes of these calls too, with every booking made before the first poll: one that was accepted where the
-/// file was written may not be here, and a rival that came later may be in its stead. Every other word of a ledger that calls
-/// have made comes back.
+/// With the first form, who is accepted comes of these calls too, with every booking made before the first poll: one that was
+/// accepted where the file was written may not be here, and a rival that came later may be in its stead. With the second form
+/// those are accepted that the file names, and no others. Every other word of a ledger that calls have made comes back, and
+/// [`write()`] in the same form then gives the same bytes.
 ///
-/// A file is good if [`write_first`] could have written it after calls that were taken. It begins with 4 and a good
-/// [`Setting`] of the first edition, or with 5 and one of the later. It has at most 511 bookings, each with a name that is not 0 and that no earlier one has, a slot from 1 to 255,
-/// and one to four parents, all of them lower numbers than its own and none twice. Each poll is of a booking other than the
-/// genesis, which no earlier poll is of, and its outcome is 0 or 1. No byte is missing, and none follows: lend as many bytes as
-/// the file has, and not the rest of a buffer.
+/// A file of the first form is good if [`write()`] could have written it after calls that were taken. It begins with 4 and a good
+/// [`Setting`] of the first edition, or with 5 and one of the later. It has at most 511 bookings, each with a name that is not 0
+/// and that no earlier one has, a slot from 1 to 255, and one to four parents, all of them lower numbers than its own and none
+/// twice. Each poll is of a booking other than the genesis, which no earlier poll is of, and its outcome is 0 or 1.
+///
+/// A file of the second form is good if its first three sections are such a file, and the fourth begins with the genesis: its
+/// numbers rise, each of them is a booking's, and no slot has two of them. They are taken as the sender tells them.
+///
+/// In either form no byte is missing, and none follows: lend as many bytes as the file has, and not the rest of a buffer.
 ///
 /// Refuses [`WrongLength`](Refusal::WrongLength), [`BadFile`](Refusal::BadFile), in this order.
+pub fn read(ws: &mut [u16], form: Form, file: &[u8]) -> Result<(), Refusal> {
+    face::restore(ws, form, file).map(drop)
+}
+
+/// [`read`] of a file of the [first form](Form::First).
 pub fn read_first(ws: &mut [u16], file: &[u8]) -> Result<(), Refusal> {
-    face::read_first(ws, file).map(drop)
+    read(ws, Form::First, file)
+}
+
+/// Moves a day file from this form to the other, without a ledger: the file of the other form goes to the front of `out`, and its
+/// length is given. The bytes past it stay as they were; if it is refused, all do.
+///
+/// From the first form it adds who is accepted where the file is read. From the second it drops the fourth section, if reading
+/// the first form gives the same; else the first form would change who is accepted, and the file is refused. A file that was
+/// moved from the first form is moved back to its own bytes.
+///
+/// It holds a workspace of its own and takes up to 16,832 bytes of stack.
+///
+/// Refuses [`BadFile`](Refusal::BadFile), from the second form then [`OtherMarks`](Refusal::OtherMarks), then
+/// [`ShortBuffer`](Refusal::ShortBuffer), in this order.
+pub fn move_from(form: Form, file: &[u8], out: &mut [u8]) -> Result<usize, Refusal> {
+    face::move_from(form, file, out).map(length)
+}
+
+/// A file's length, at most [`SECOND_FILE_MOST`].
+fn length(value: i64) -> usize {
+    value as usize
 }
 
 /// Builds the index of the ledger, whatever its cells held: all of them become empty, 65535, and then the numbers of all

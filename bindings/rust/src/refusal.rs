@@ -42,12 +42,15 @@ pub enum Refusal {
     DamagedRecord(u16),
     /// Header and records are right and a slot's entry breaks a rule: the lowest such slot, 0 to 255.
     DamagedSlot(u16),
-    /// The buffer is shorter than the file. [`FILE_MOST`](crate::FILE_MOST) bytes are enough for any.
+    /// The buffer is shorter than the file. [`SECOND_FILE_MOST`](crate::SECOND_FILE_MOST) bytes are enough for any.
     ShortBuffer,
-    /// The file isn't [good](crate::read_first): no ledger that calls could have made has it.
+    /// The file isn't [good](crate::read) in the form that the call names.
     BadFile,
     /// The index hasn't [`CELLS`](crate::CELLS) cells.
     WrongIndex,
+    /// A file of the second form can't be [moved](crate::move_from) to the first, which would be read with other marks: others
+    /// would be accepted.
+    OtherMarks,
     /// No cell of the index is empty.
     IndexFull,
 }
@@ -74,6 +77,7 @@ impl Refusal {
             Refusal::ShortBuffer => 16,
             Refusal::BadFile => 17,
             Refusal::WrongIndex => 18,
+            Refusal::OtherMarks => 19,
             Refusal::IndexFull => 27,
         }
     }
@@ -121,6 +125,7 @@ impl Refusal {
             (16, 0) => Refusal::ShortBuffer,
             (17, 0) => Refusal::BadFile,
             (18, 0) => Refusal::WrongIndex,
+            (19, 0) => Refusal::OtherMarks,
             (27, 0) => Refusal::IndexFull,
             _ => return None,
         })
@@ -146,6 +151,7 @@ impl fmt::Display for Refusal {
             Refusal::ShortBuffer => "the buffer is shorter than the file",
             Refusal::BadFile => "the day file is not good",
             Refusal::WrongIndex => "the index has the wrong length",
+            Refusal::OtherMarks => "the first form of the file would be read with other marks",
             Refusal::IndexFull => "no cell of the index is empty",
             Refusal::DamagedRecord(512) => "an ordinal is missing in a full ledger (record 512)",
             Refusal::DamagedRecord(record) => {

@@ -24,6 +24,7 @@ use Rattle.terms.specs.declared.answer.Refusal.the-variants.{
   ShortBuffer,
   BadFile,
   WrongIndex,
+  OtherMarks,
   IndexFull,
 }
 use Rattle.terms.specs.declared.answer.Answer.the-variants.{Taken, Refused}
@@ -31,7 +32,7 @@ use Rattle.terms.specs.Answers.{number, value}
 use Rattle.rule_laws.proofs.Calls.{number-refused}
 use Rattle.code_promises.specs.OfCode.{AnswerTold}
 
--- the refusals in the order of their numbers, those that name a row with this one; 0 and 19 to 26 are none's
+-- the refusals in the order of their numbers, those that name a row with this one; 0 and 20 to 26 are none's
 abbrev refusals : ℕ → List Refusal
 refusals row =
     WrongLength
@@ -53,7 +54,8 @@ refusals row =
     ∷ ShortBuffer
     ∷ BadFile
     ∷ WrongIndex
-    ∷ replicate 8 WrongLength ++ IndexFull
+    ∷ OtherMarks
+    ∷ replicate 7 WrongLength ++ IndexFull
     ∷ []
 
 abbrev refusalAt : ℕ → ℤ → Refusal
@@ -78,6 +80,7 @@ found-again (DamagedSlot row) = refl
 found-again ShortBuffer = refl
 found-again BadFile = refl
 found-again WrongIndex = refl
+found-again OtherMarks = refl
 found-again IndexFull = refl
 
 pub answer-told : AnswerTold

@@ -9,11 +9,13 @@ use borrow.Fn.Kinds.{In, Out}
 use Rattle.terms.specs.declared.setting.Setting.{Setting}
 use Rattle.terms.specs.declared.answer.Reading.the-variants.{Query, Accepted, Lead, Confidence, Size}
 use Rattle.terms.specs.declared.answer.Answer.{Answer}
+use Rattle.terms.specs.declared.form.Form.{Form}
+use Rattle.terms.specs.declared.form.Form.the-variants.{First, Second}
 use Rattle.terms.specs.Answers.{Outcome, Handover, handover, number, value}
 use Rattle.rules.specs.Calls.{openCall, bookCall, pollCall, queryCall, acceptedCall, leadCall, confidenceCall, sizeCall}
-use Rattle.day_file.specs.Calls.{writeFirstCall, readFirstCall}
+use Rattle.day_file.specs.Calls.{writeFileCall, readFileCall}
 use Rattle.name_index.specs.Calls.{indexBuildCall, indexEnterCall, indexFindCall}
-use Rattle.promises.specs.Run.{Open, Book, Poll, Ask, WriteFirst, ReadFirst, IndexBuild, IndexEnter, IndexFind}
+use Rattle.promises.specs.Run.{Open, Book, Poll, Ask, WriteFile, ReadFile, IndexBuild, IndexEnter, IndexFind}
 use Rattle.promises.proofs.Taken.{write-words, build-words, enter-words}
 use Rattle.station.specs.Returned.{Returned, Handed, HandedOver}
 use Rattle.code_promises.specs.Contract.{contractOf, Allowed, endedBy}
@@ -22,14 +24,12 @@ use Rattle.code_promises.proofs.Functions.{
   by-open,
   by-book,
   by-poll,
-  by-write-first,
-  by-read-first,
+  by-write-file,
+  by-read-file,
   by-find,
   by-filz-open,
   by-filz-book,
   by-filz-poll,
-  by-filz-write-first,
-  by-filz-read-first,
   by-filz-index-find,
   function,
   of-ledger,
@@ -38,14 +38,14 @@ use Rattle.code_promises.proofs.Functions.{
 use Rattle.code_promises.proofs as code
 
 -- a reference to what is lent; no contract asks where it stands
-abbrev lent : {X : Type 0} → X → RefT X
+abbrev pub lent : {X : Type 0} → X → RefT X
 lent x = record { ptr = (0, 0); name = 0; now = x }
 
 -- the number and the value of an answer are its own
 own : (a : Answer) → Returned a (number a) (value a)
 own a = record { numbered = refl; valued = refl }
 
-handed : (o : Outcome) → Handed o (number (o .answer)) (value (o .answer)) (o .words)
+pub handed : (o : Outcome) → Handed o (number (o .answer)) (value (o .answer)) (o .words)
 handed o = record { told = own (o .answer); words = refl }
 
 -- the law leaves the words that are only lent
@@ -98,26 +98,32 @@ poll-callable name votes w =
     }
 
 -- the words are only lent, and the law leaves them
-write-first-callable : (buffer w : List ℕ) → Makes function by-write-first (WriteFirst buffer) w
-write-first-callable buffer w =
-    let o = writeFirstCall w buffer in
+write-file-callable : (form : Form) (buffer w : List ℕ) → Makes function by-write-file (WriteFile form buffer) w
+write-file-callable form buffer w =
+    let o = writeFileCall form w buffer in
     record {
       allowed = record {
         at = ([], ([], tt));
-        given = (lent w, (lent buffer, tt));
+        given = (lent w, (form, (lent buffer, tt)));
         returned = o .answer;
-        last = (tt, (o .lent, tt));
-        learnt = left-words o (write-words w buffer);
+        last = (tt, (tt, (o .lent, tt)));
+        learnt = left-words o (write-words form w buffer);
       };
       asks = refl;
       words = refl;
     }
 
-read-first-callable : (file w : List ℕ) → Makes function by-read-first (ReadFirst file) w
-read-first-callable file w =
-    let o = readFirstCall w file in
+read-file-callable : (form : Form) (file w : List ℕ) → Makes function by-read-file (ReadFile form file) w
+read-file-callable form file w =
+    let o = readFileCall form w file in
     record {
-      allowed = record { at = ([], ([], tt)); given = (lent w, (lent file, tt)); returned = o .answer; last = (o .words, (tt, tt)); learnt = refl };
+      allowed = record {
+        at = ([], ([], tt));
+        given = (lent w, (form, (lent file, tt)));
+        returned = o .answer;
+        last = (o .words, (tt, (tt, tt)));
+        learnt = refl;
+      };
       asks = refl;
       words = refl;
     }
@@ -162,8 +168,8 @@ ledger-callable (Ask Accepted name) w = record { allowed = read name w (accepted
 ledger-callable (Ask Lead name) w = record { allowed = read name w (leadCall w name) refl; asks = refl; words = refl }
 ledger-callable (Ask Confidence name) w = record { allowed = read name w (confidenceCall w name) refl; asks = refl; words = refl }
 ledger-callable (Ask Size name) w = record { allowed = read name w (sizeCall w name) refl; asks = refl; words = refl }
-ledger-callable (WriteFirst buffer) w = write-first-callable buffer w
-ledger-callable (ReadFirst file) w = read-first-callable file w
+ledger-callable (WriteFile form buffer) w = write-file-callable form buffer w
+ledger-callable (ReadFile form file) w = read-file-callable form file w
 ledger-callable (IndexBuild cells) w =
     let o = indexBuildCall w cells in
     record { allowed = index cells w o (left-words o (build-words w cells)); asks = refl; words = refl }
@@ -219,34 +225,35 @@ filz-poll-callable name votes w =
       words = refl;
     }
 
-filz-write-first-callable : (buffer w : List ℕ) → Makes function by-filz-write-first (WriteFirst buffer) w
-filz-write-first-callable buffer w =
-    let o = writeFirstCall w buffer in
+-- a file that is written or read, with an outcome that its contract allows
+abbrev filz-write : {Asked : In 3 code.filz_write_first.Kinds.ps} {Learnt : Out 3 code.filz_write_first.Kinds.ps code.filz_write_first.Kinds.r} →
+    let f = contractOf 3 code.filz_write_first.Kinds.ps code.filz_write_first.Kinds.r Asked Learnt in
+    (buffer w : List ℕ) (o : Handover) →
+    Learnt ([], ([], ([], tt))) (lent w, (lent buffer, (lent (pos 0), tt))) (number (o .answer))
+    (atExit (endedBy f) ([], ([], ([], tt))) (lent w, (lent buffer, (lent (pos 0), tt))) (tt, (o .lent, (value (o .answer), tt)))) →
+    Allowed f
+filz-write buffer w o learnt =
     record {
-      allowed = record {
-        at = ([], ([], ([], tt)));
-        given = (lent w, (lent buffer, (lent (pos 0), tt)));
-        returned = number (o .answer);
-        last = (tt, (o .lent, (value (o .answer), tt)));
-        learnt = over o (write-words w buffer);
-      };
-      asks = refl;
-      words = refl;
+      at = ([], ([], ([], tt)));
+      given = (lent w, (lent buffer, (lent (pos 0), tt)));
+      returned = number (o .answer);
+      last = (tt, (o .lent, (value (o .answer), tt)));
+      learnt = learnt;
     }
 
-filz-read-first-callable : (file w : List ℕ) → Makes function by-filz-read-first (ReadFirst file) w
-filz-read-first-callable file w =
-    let o = readFirstCall w file in
+abbrev filz-take : {Asked : In 3 code.filz_read_first.Kinds.ps} {Learnt : Out 3 code.filz_read_first.Kinds.ps code.filz_read_first.Kinds.r} →
+    let f = contractOf 3 code.filz_read_first.Kinds.ps code.filz_read_first.Kinds.r Asked Learnt in
+    (file w : List ℕ) (o : Outcome) →
+    Learnt ([], ([], ([], tt))) (lent w, (lent file, (lent (pos 0), tt))) (number (o .answer))
+    (atExit (endedBy f) ([], ([], ([], tt))) (lent w, (lent file, (lent (pos 0), tt))) (o .words, (tt, (value (o .answer), tt)))) →
+    Allowed f
+filz-take file w o learnt =
     record {
-      allowed = record {
-        at = ([], ([], ([], tt)));
-        given = (lent w, (lent file, (lent (pos 0), tt)));
-        returned = number (o .answer);
-        last = (o .words, (tt, (value (o .answer), tt)));
-        learnt = handed o;
-      };
-      asks = refl;
-      words = refl;
+      at = ([], ([], ([], tt)));
+      given = (lent w, (lent file, (lent (pos 0), tt)));
+      returned = number (o .answer);
+      last = (o .words, (tt, (value (o .answer), tt)));
+      learnt = learnt;
     }
 
 abbrev filz-index : {Asked : In 3 code.filz_index_build.Kinds.ps} {Learnt : Out 3 code.filz_index_build.Kinds.ps code.filz_index_build.Kinds.r} →
@@ -298,8 +305,18 @@ station-callable (Ask Accepted name) w = let r = acceptedCall w name in record {
 station-callable (Ask Lead name) w = let r = leadCall w name in record { allowed = filz-read name w r (own r); asks = refl; words = refl }
 station-callable (Ask Confidence name) w = let r = confidenceCall w name in record { allowed = filz-read name w r (own r); asks = refl; words = refl }
 station-callable (Ask Size name) w = let r = sizeCall w name in record { allowed = filz-read name w r (own r); asks = refl; words = refl }
-station-callable (WriteFirst buffer) w = filz-write-first-callable buffer w
-station-callable (ReadFirst file) w = filz-read-first-callable file w
+station-callable (WriteFile First buffer) w =
+    let o = writeFileCall First w buffer in
+    record { allowed = filz-write buffer w o (over o (write-words First w buffer)); asks = refl; words = refl }
+station-callable (WriteFile Second buffer) w =
+    let o = writeFileCall Second w buffer in
+    record { allowed = filz-write buffer w o (over o (write-words Second w buffer)); asks = refl; words = refl }
+station-callable (ReadFile First file) w =
+    let o = readFileCall First w file in
+    record { allowed = filz-take file w o (handed o); asks = refl; words = refl }
+station-callable (ReadFile Second file) w =
+    let o = readFileCall Second w file in
+    record { allowed = filz-take file w o (handed o); asks = refl; words = refl }
 station-callable (IndexBuild cells) w =
     let o = indexBuildCall w cells in
     record { allowed = filz-index cells w o (over o (build-words w cells)); asks = refl; words = refl }

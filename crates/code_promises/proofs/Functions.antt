@@ -1,5 +1,5 @@
--- The public functions: the ledger's ten, the index's three, and the C face's thirteen. Each by its own contract, which src/lib.rt passes on, and by what its
--- parameters mean.
+-- The public functions: the ledger's eleven, the index's three, and the C face's seventeen. Each by its own contract, which src/lib.rt passes on, and by what its
+-- parameters mean. The three that move a file have no workspace and stand at the end, by themselves.
 use Prim.Native.Nat.{ℕ}
 use mathlib.Core.List.{List, []}
 use lib.IntN.{ℤ}
@@ -7,11 +7,14 @@ use denote.Ref.{now}
 use borrow.Fn.Kinds.{In, Out}
 use Rattle.terms.specs.declared.answer.Reading.the-variants.{Query, Accepted, Lead, Confidence, Size}
 use Rattle.terms.specs.declared.answer.Answer.{Answer}
+use Rattle.terms.specs.declared.form.Form.{Form}
+use Rattle.terms.specs.declared.form.Form.the-variants.{First, Second}
 use Rattle.terms.specs.Answers.{number, value}
-use Rattle.promises.specs.Run.{Call, Open, Book, Poll, Ask, WriteFirst, ReadFirst, IndexBuild, IndexEnter, IndexFind}
+use Rattle.promises.specs.Run.{Call, Open, Book, Poll, Ask, WriteFile, ReadFile, IndexBuild, IndexEnter, IndexFind}
 use Rattle.terms.specs.Setting.{settingOf}
 use Rattle.code_promises.specs.Contract.{contractOf, left}
 use Rattle.code_promises.specs.OfCode.{Done, Function}
+use Rattle.code_promises.specs.OfMoves.{Mover}
 use Rattle.code_promises.proofs as code
 
 pub data Name : Type 0 where
@@ -23,8 +26,8 @@ pub data Name : Type 0 where
   by-lead : Name
   by-confidence : Name
   by-size : Name
-  by-write-first : Name
-  by-read-first : Name
+  by-write-file : Name
+  by-read-file : Name
   by-build : Name
   by-enter : Name
   by-find : Name
@@ -37,7 +40,9 @@ pub data Name : Type 0 where
   by-filz-confidence : Name
   by-filz-size : Name
   by-filz-write-first : Name
+  by-filz-write-second : Name
   by-filz-read-first : Name
+  by-filz-read-second : Name
   by-filz-index-build : Name
   by-filz-index-enter : Name
   by-filz-index-find : Name
@@ -86,6 +91,21 @@ filz-indexing Asked Learnt call = record {
       (now (left m .1 .0));
 }
 
+-- a file is written to the bytes that are lent, or read from them, in the form that the function's name says
+abbrev filz-writing : In 3 code.filz_write_first.Kinds.ps → Out 3 code.filz_write_first.Kinds.ps code.filz_write_first.Kinds.r → Form → Function
+filz-writing Asked Learnt form = record {
+  contract = contractOf 3 code.filz_write_first.Kinds.ps code.filz_write_first.Kinds.r Asked Learnt;
+  done = λ m. leaving
+      (told (WriteFile form (now (m .given .1 .0))) (now (m .given .0)) (m .returned) (now (left m .1 .1 .0)) (now (left m .0)))
+      (now (left m .1 .0));
+}
+
+abbrev filz-taking : In 3 code.filz_read_first.Kinds.ps → Out 3 code.filz_read_first.Kinds.ps code.filz_read_first.Kinds.r → Form → Function
+filz-taking Asked Learnt form = record {
+  contract = contractOf 3 code.filz_read_first.Kinds.ps code.filz_read_first.Kinds.r Asked Learnt;
+  done = λ m. told (ReadFile form (now (m .given .1 .0))) (now (m .given .0)) (m .returned) (now (left m .1 .1 .0)) (now (left m .0));
+}
+
 -- ---- all of them
 
 abbrev pub function : Name → Function
@@ -106,15 +126,15 @@ function by-accepted = reading code.accepted.Reads.Asked code.accepted.Reads.Lea
 function by-lead = reading code.lead.Reads.Asked code.lead.Reads.Learnt (Ask Lead)
 function by-confidence = reading code.confidence.Reads.Asked code.confidence.Reads.Learnt (Ask Confidence)
 function by-size = reading code.size.Reads.Asked code.size.Reads.Learnt (Ask Size)
-function by-write-first = record {
-  contract = contractOf 2 code.write_first.Kinds.ps code.write_first.Kinds.r code.write_first.Reads.Asked code.write_first.Reads.Learnt;
+function by-write-file = record {
+  contract = contractOf 2 code.write_file.Kinds.ps code.write_file.Kinds.r code.write_file.Reads.Asked code.write_file.Reads.Learnt;
   done = λ m. leaving
-      (answered (WriteFirst (now (m .given .1 .0))) (now (m .given .0)) (m .returned) (now (left m .0)))
-      (now (left m .1 .0));
+      (answered (WriteFile (m .given .1 .0) (now (m .given .1 .1 .0))) (now (m .given .0)) (m .returned) (now (left m .0)))
+      (now (left m .1 .1 .0));
 }
-function by-read-first = record {
-  contract = contractOf 2 code.read_first.Kinds.ps code.read_first.Kinds.r code.read_first.Reads.Asked code.read_first.Reads.Learnt;
-  done = λ m. answered (ReadFirst (now (m .given .1 .0))) (now (m .given .0)) (m .returned) (now (left m .0));
+function by-read-file = record {
+  contract = contractOf 2 code.read_file.Kinds.ps code.read_file.Kinds.r code.read_file.Reads.Asked code.read_file.Reads.Learnt;
+  done = λ m. answered (ReadFile (m .given .1 .0) (now (m .given .1 .1 .0))) (now (m .given .0)) (m .returned) (now (left m .0));
 }
 function by-build = indexing code.build.Reads.Asked code.build.Reads.Learnt IndexBuild
 function by-enter = indexing code.enter.Reads.Asked code.enter.Reads.Learnt IndexEnter
@@ -145,16 +165,10 @@ function by-filz-accepted = filz-reading code.filz_accepted.Reads.Asked code.fil
 function by-filz-lead = filz-reading code.filz_lead.Reads.Asked code.filz_lead.Reads.Learnt (Ask Lead)
 function by-filz-confidence = filz-reading code.filz_confidence.Reads.Asked code.filz_confidence.Reads.Learnt (Ask Confidence)
 function by-filz-size = filz-reading code.filz_size.Reads.Asked code.filz_size.Reads.Learnt (Ask Size)
-function by-filz-write-first = record {
-  contract = contractOf 3 code.filz_write_first.Kinds.ps code.filz_write_first.Kinds.r code.filz_write_first.Reads.Asked code.filz_write_first.Reads.Learnt;
-  done = λ m. leaving
-      (told (WriteFirst (now (m .given .1 .0))) (now (m .given .0)) (m .returned) (now (left m .1 .1 .0)) (now (left m .0)))
-      (now (left m .1 .0));
-}
-function by-filz-read-first = record {
-  contract = contractOf 3 code.filz_read_first.Kinds.ps code.filz_read_first.Kinds.r code.filz_read_first.Reads.Asked code.filz_read_first.Reads.Learnt;
-  done = λ m. told (ReadFirst (now (m .given .1 .0))) (now (m .given .0)) (m .returned) (now (left m .1 .1 .0)) (now (left m .0));
-}
+function by-filz-write-first = filz-writing code.filz_write_first.Reads.Asked code.filz_write_first.Reads.Learnt First
+function by-filz-write-second = filz-writing code.filz_write_second.Reads.Asked code.filz_write_second.Reads.Learnt Second
+function by-filz-read-first = filz-taking code.filz_read_first.Reads.Asked code.filz_read_first.Reads.Learnt First
+function by-filz-read-second = filz-taking code.filz_read_second.Reads.Asked code.filz_read_second.Reads.Learnt Second
 function by-filz-index-build = filz-indexing code.filz_index_build.Reads.Asked code.filz_index_build.Reads.Learnt IndexBuild
 function by-filz-index-enter = filz-indexing code.filz_index_enter.Reads.Asked code.filz_index_enter.Reads.Learnt IndexEnter
 function by-filz-index-find = record {
@@ -175,8 +189,8 @@ of-ledger (Ask Accepted name) = by-accepted
 of-ledger (Ask Lead name) = by-lead
 of-ledger (Ask Confidence name) = by-confidence
 of-ledger (Ask Size name) = by-size
-of-ledger (WriteFirst buffer) = by-write-first
-of-ledger (ReadFirst file) = by-read-first
+of-ledger (WriteFile form buffer) = by-write-file
+of-ledger (ReadFile form file) = by-read-file
 of-ledger (IndexBuild index) = by-build
 of-ledger (IndexEnter index) = by-enter
 of-ledger (IndexFind index name) = by-find
@@ -190,8 +204,53 @@ of-station (Ask Accepted name) = by-filz-accepted
 of-station (Ask Lead name) = by-filz-lead
 of-station (Ask Confidence name) = by-filz-confidence
 of-station (Ask Size name) = by-filz-size
-of-station (WriteFirst buffer) = by-filz-write-first
-of-station (ReadFirst file) = by-filz-read-first
+of-station (WriteFile First buffer) = by-filz-write-first
+of-station (WriteFile Second buffer) = by-filz-write-second
+of-station (ReadFile First file) = by-filz-read-first
+of-station (ReadFile Second file) = by-filz-read-second
 of-station (IndexBuild index) = by-filz-index-build
 of-station (IndexEnter index) = by-filz-index-enter
 of-station (IndexFind index name) = by-filz-index-find
+
+-- ---- a move of a file has two buffers and no workspace
+
+pub data MoverName : Type 0 where
+  by-move-file : MoverName
+  by-filz-move-first : MoverName
+  by-filz-move-second : MoverName
+
+abbrev filz-moving : In 3 code.filz_move_first.Kinds.ps → Out 3 code.filz_move_first.Kinds.ps code.filz_move_first.Kinds.r → Form → Mover
+filz-moving Asked Learnt form = record {
+  contract = contractOf 3 code.filz_move_first.Kinds.ps code.filz_move_first.Kinds.r Asked Learnt;
+  done = λ m. record {
+    form = form;
+    file = now (m .given .0);
+    before = now (m .given .1 .0);
+    number = m .returned;
+    value = now (left m .1 .1 .0);
+    after = now (left m .1 .0);
+  };
+}
+
+abbrev pub mover : MoverName → Mover
+mover by-move-file = record {
+  contract = contractOf 2 code.move_file.Kinds.ps code.move_file.Kinds.r code.move_file.Reads.Asked code.move_file.Reads.Learnt;
+  done = λ m. record {
+    form = m .given .0;
+    file = now (m .given .1 .0);
+    before = now (m .given .1 .1 .0);
+    number = number (m .returned);
+    value = value (m .returned);
+    after = now (left m .1 .1 .0);
+  };
+}
+mover by-filz-move-first = filz-moving code.filz_move_first.Reads.Asked code.filz_move_first.Reads.Learnt First
+mover by-filz-move-second = filz-moving code.filz_move_second.Reads.Asked code.filz_move_second.Reads.Learnt Second
+
+-- the function that each face has for a move, by the form of the file that is read
+abbrev pub moves-of-ledger : Form → MoverName
+moves-of-ledger form = by-move-file
+
+abbrev pub moves-of-station : Form → MoverName
+moves-of-station First = by-filz-move-first
+moves-of-station Second = by-filz-move-second

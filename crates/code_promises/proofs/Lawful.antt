@@ -20,8 +20,8 @@ use Rattle.code_promises.proofs.Functions.{
   by-lead,
   by-confidence,
   by-size,
-  by-write-first,
-  by-read-first,
+  by-write-file,
+  by-read-file,
   by-build,
   by-enter,
   by-find,
@@ -34,7 +34,9 @@ use Rattle.code_promises.proofs.Functions.{
   by-filz-confidence,
   by-filz-size,
   by-filz-write-first,
+  by-filz-write-second,
   by-filz-read-first,
+  by-filz-read-second,
   by-filz-index-build,
   by-filz-index-enter,
   by-filz-index-find,
@@ -93,13 +95,13 @@ size-lawful : Lawful (function by-size)
 unfolding outcomeOf lentAfter
 size-lawful = record { asks = λ at given. tt; gives = λ m. (reads (m .learnt), refl) }
 
-write-first-lawful : Lawful (function by-write-first)
+write-file-lawful : Lawful (function by-write-file)
 unfolding outcomeOf lentAfter
-write-first-lawful = record { asks = λ at given. tt; gives = λ m. over (handed-of (m .learnt) (record { numbered = refl; valued = refl })) }
+write-file-lawful = record { asks = λ at given. tt; gives = λ m. over (handed-of (m .learnt) (record { numbered = refl; valued = refl })) }
 
-read-first-lawful : Lawful (function by-read-first)
+read-file-lawful : Lawful (function by-read-file)
 unfolding outcomeOf lentAfter
-read-first-lawful = record { asks = λ at given. tt; gives = λ m. (answers (m .learnt), refl) }
+read-file-lawful = record { asks = λ at given. tt; gives = λ m. (answers (m .learnt), refl) }
 
 build-lawful : Lawful (function by-build)
 unfolding outcomeOf lentAfter
@@ -151,9 +153,17 @@ filz-write-first-lawful : Lawful (function by-filz-write-first)
 unfolding outcomeOf lentAfter
 filz-write-first-lawful = record { asks = λ at given. tt; gives = λ m. over (m .learnt) }
 
+filz-write-second-lawful : Lawful (function by-filz-write-second)
+unfolding outcomeOf lentAfter
+filz-write-second-lawful = record { asks = λ at given. tt; gives = λ m. over (m .learnt) }
+
 filz-read-first-lawful : Lawful (function by-filz-read-first)
 unfolding outcomeOf lentAfter
 filz-read-first-lawful = record { asks = λ at given. tt; gives = λ m. (m .learnt, refl) }
+
+filz-read-second-lawful : Lawful (function by-filz-read-second)
+unfolding outcomeOf lentAfter
+filz-read-second-lawful = record { asks = λ at given. tt; gives = λ m. (m .learnt, refl) }
 
 filz-index-build-lawful : Lawful (function by-filz-index-build)
 unfolding outcomeOf lentAfter
@@ -178,8 +188,8 @@ lawful by-accepted = accepted-lawful
 lawful by-lead = lead-lawful
 lawful by-confidence = confidence-lawful
 lawful by-size = size-lawful
-lawful by-write-first = write-first-lawful
-lawful by-read-first = read-first-lawful
+lawful by-write-file = write-file-lawful
+lawful by-read-file = read-file-lawful
 lawful by-build = build-lawful
 lawful by-enter = enter-lawful
 lawful by-find = find-lawful
@@ -192,7 +202,9 @@ lawful by-filz-lead = filz-lead-lawful
 lawful by-filz-confidence = filz-confidence-lawful
 lawful by-filz-size = filz-size-lawful
 lawful by-filz-write-first = filz-write-first-lawful
+lawful by-filz-write-second = filz-write-second-lawful
 lawful by-filz-read-first = filz-read-first-lawful
+lawful by-filz-read-second = filz-read-second-lawful
 lawful by-filz-index-build = filz-index-build-lawful
 lawful by-filz-index-enter = filz-index-enter-lawful
 lawful by-filz-index-find = filz-index-find-lawful

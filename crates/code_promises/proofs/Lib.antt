@@ -4,3 +4,4 @@ pub mod Callable
 pub mod Lawful
 pub mod Answers
 pub mod OfCode
+pub mod OfMoves

@@ -11,10 +11,10 @@ use Rattle.rules.specs.Layout.{nameOf}
 use Rattle.rules.specs.Sound.{Ledger}
 use Rattle.rules.specs.Calls.{bookCall, acceptedCall}
 use Rattle.rule_laws.proofs.Calls.{zero-taken, taken-zero}
-use Rattle.day_file.specs.Bytes.{dayFile}
-use Rattle.day_file.specs.Calls.{writeFirstCall, readFirstCall}
+use Rattle.day_file.specs.Bytes.{fileOf}
+use Rattle.day_file.specs.Calls.{writeFileCall, readFileCall}
 use Rattle.name_index.specs.Index.{built}
-use Rattle.promises.specs.Run.{Call, Open, Book, Poll, Ask, WriteFirst, ReadFirst, IndexBuild, IndexEnter, IndexFind, outcomeOf, opens, lentAfter, History, fresh, historyAfter, run}
+use Rattle.promises.specs.Run.{Call, Open, Book, Poll, Ask, WriteFile, ReadFile, IndexBuild, IndexEnter, IndexFind, outcomeOf, opens, lentAfter, History, fresh, historyAfter, run}
 use Rattle.promises.specs.Acceptance.{AcceptedOnce, AcceptedCallOnce, renews, NoneRenews, AcceptedCallStays}
 use Rattle.promises.specs.Damage.{NamesDamage}
 use Rattle.promises.specs.Refusals.{RefusedKeeps}
@@ -66,10 +66,10 @@ use Rattle.code_promises.proofs.Lawful.{code-lawful}
 use Rattle.code_promises.proofs.Answers.{answer-told}
 
 -- what the law gives for a call that was made
-abbrev due : Done → Outcome
+abbrev pub due : Done → Outcome
 due d = outcomeOf (d .call) (d .before)
 
-gave : (d : Done) → Made function d → Handed (due d) (d .number) (d .value) (d .after)
+pub gave : (d : Done) → Made function d → Handed (due d) (d .number) (d .value) (d .after)
 unfolding CodeLawful
 gave d m = code-lawful d m .0
 
@@ -77,7 +77,7 @@ gave-lent : (d : Done) → Made function d → d .lent ≡ lentAfter (d .call) (
 unfolding CodeLawful
 gave-lent d m = code-lawful d m .1
 
-due-is : (d : Done) {c : Call} {w : List ℕ} → d .call ≡ c → d .before ≡ w → due d ≡ outcomeOf c w
+pub due-is : (d : Done) {c : Call} {w : List ℕ} → d .call ≡ c → d .before ≡ w → due d ≡ outcomeOf c w
 due-is d {c} asks words = ap (λ x. outcomeOf x (d .before)) asks ∙ ap (outcomeOf c) words
 
 -- ---- demand 1
@@ -98,8 +98,8 @@ listed (Open s) w = refused-listed .opening w s
 listed (Book name slot parents) w = refused-listed .booking w name slot parents
 listed (Poll name votes) w = refused-listed .polling w name votes
 listed (Ask what name) w = refused-listed .reading what w name
-listed (WriteFirst buffer) w = refused-listed .writing w buffer
-listed (ReadFirst file) w = refused-listed .readingFile w file
+listed (WriteFile form buffer) w = refused-listed .writing form w buffer
+listed (ReadFile form file) w = refused-listed .readingFile form w file
 listed (IndexBuild index) w = refused-listed .building w index
 listed (IndexEnter index) w = refused-listed .entering w index
 listed (IndexFind index name) w = refused-listed .finding w index name
@@ -129,29 +129,29 @@ code-names-damage d m =
 
 pub code-writes : CodeWrites function
 unfolding CodeWrites FileWritten outcomeOf lentAfter
-code-writes d buffer m asks taken =
+code-writes d form buffer m asks taken =
     let law = due-is d asks refl in
     let given = gave d m in
-    let o = writeFirstCall (d .before) buffer in
-    let written = file-written (d .before) buffer (ap (λ x. number (x .answer)) (sym law) ∙ sym (given .told .numbered) ∙ taken) in
+    let o = writeFileCall form (d .before) buffer in
+    let written = file-written form (d .before) buffer (ap (λ x. number (x .answer)) (sym law) ∙ sym (given .told .numbered) ∙ taken) in
     let valued : d .value ≡ value (o .answer) = given .told .valued ∙ ap (λ x. value (x .answer)) law in
     let lent : d .lent ≡ o .lent = gave-lent d m ∙ ap (λ c. lentAfter c (d .before)) asks in (
-      subst (λ v. Written (dayFile (d .before)) buffer v (d .lent)) (sym valued)
-          (subst (Written (dayFile (d .before)) buffer (value (o .answer))) (sym lent) (written .0)),
+      subst (λ v. Written (fileOf form (d .before)) buffer v (d .lent)) (sym valued)
+          (subst (Written (fileOf form (d .before)) buffer (value (o .answer))) (sym lent) (written .0)),
       given .words ∙ ap (λ x. x .words) law ∙ written .1,
     )
 
 pub code-reads : CodeReads function
 unfolding CodeReads FileOfRead OpenedSound outcomeOf
-code-reads d file m asks taken =
+code-reads d form file m asks taken =
     let law = due-is d asks refl in
     let given = gave d m in
-    let numbered : number (readFirstCall (d .before) file .answer) ≡ 0 = ap (λ o. number (o .answer)) (sym law) ∙ sym (given .told .numbered) ∙ taken in
-    let words : d .after ≡ readFirstCall (d .before) file .words = given .words ∙ ap (λ o. o .words) law in
-    let t = zero-taken (readFirstCall (d .before) file .answer) numbered in (
-      subst Ledger (sym words) (opened-sound (ReadFirst file) (d .before) refl t),
-      ap dayFile words ∙ file-of-read (d .before) file t,
-      given .told .valued ∙ ap (λ o. value (o .answer)) law ∙ ranges .readingFile (d .before) file numbered,
+    let numbered : number (readFileCall form (d .before) file .answer) ≡ 0 = ap (λ o. number (o .answer)) (sym law) ∙ sym (given .told .numbered) ∙ taken in
+    let words : d .after ≡ readFileCall form (d .before) file .words = given .words ∙ ap (λ o. o .words) law in
+    let t = zero-taken (readFileCall form (d .before) file .answer) numbered in (
+      subst Ledger (sym words) (opened-sound (ReadFile form file) (d .before) refl t),
+      ap (fileOf form) words ∙ file-of-read form (d .before) file t,
+      given .told .valued ∙ ap (λ o. value (o .answer)) law ∙ ranges .readingFile form (d .before) file numbered,
     )
 
 -- ---- the name index

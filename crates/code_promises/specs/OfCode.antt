@@ -8,12 +8,13 @@ use lib.IntN.{ℤ, pos}
 use Rattle.loops.specs.Total.{total}
 use Rattle.terms.specs.declared.answer.Reading.the-variants.{Accepted}
 use Rattle.terms.specs.declared.answer.Answer.{Answer}
+use Rattle.terms.specs.declared.form.Form.{Form}
 use Rattle.terms.specs.Answers.{number, value}
 use Rattle.rules.specs.Layout.{bookings, polls, slotOf, nameOf, confidenceOf, preferredIn}
 use Rattle.rules.specs.Readings.{acceptedOf}
 use Rattle.rules.specs.Sound.{Ledger}
-use Rattle.day_file.specs.Bytes.{dayFile}
-use Rattle.promises.specs.Run.{Call, Open, Book, Poll, Ask, WriteFirst, ReadFirst, IndexBuild, IndexEnter, IndexFind, outcomeOf, opens, lentBy, lentAfter, History, fresh, historyAfter}
+use Rattle.day_file.specs.Bytes.{fileOf}
+use Rattle.promises.specs.Run.{Call, Open, Book, Poll, Ask, WriteFile, ReadFile, IndexBuild, IndexEnter, IndexFind, outcomeOf, opens, lentBy, lentAfter, History, fresh, historyAfter}
 use Rattle.promises.specs.Refusals.{OpenListed, BookListed, PollListed, ReadingListed, WriteFileListed, ReadFileListed, BuildListed, EnterListed, FindListed}
 use Rattle.promises.specs.Damage.{NamesDamage}
 use Rattle.promises.specs.DayFile.{Written}
@@ -47,8 +48,8 @@ ListedFirst (Open s) w = OpenListed w s
 ListedFirst (Book name slot parents) w = BookListed w name slot parents
 ListedFirst (Poll name votes) w = PollListed w name votes
 ListedFirst (Ask what name) w = ReadingListed w name
-ListedFirst (WriteFirst buffer) w = WriteFileListed w buffer
-ListedFirst (ReadFirst file) w = ReadFileListed w file
+ListedFirst (WriteFile form buffer) w = WriteFileListed form w buffer
+ListedFirst (ReadFile form file) w = ReadFileListed form w file
 ListedFirst (IndexBuild index) w = BuildListed w index
 ListedFirst (IndexEnter index) w = EnterListed w index
 ListedFirst (IndexFind index name) w = FindListed w index name
@@ -111,17 +112,17 @@ module _ {Name : Type 0} (function : Name → Function) where
   unfoldable pub CodeNamesDamage : Type 0
   CodeNamesDamage = (d : Done) → Made d → NamesDamage (d .before) (d .number) (d .value)
 
-  -- a file that is written stands at the front of the buffer, the bytes past it stay, the value is its length, and no word changes
+  -- a file that is written, in the form that was named, stands at the front of the buffer, the bytes past it stay, the value is its length, and no word changes
   unfoldable pub CodeWrites : Type 0
   CodeWrites =
-      (d : Done) (buffer : List ℕ) → Made d → d .call ≡ WriteFirst buffer → d .number ≡ 0
-      → Written (dayFile (d .before)) buffer (d .value) (d .lent) × (d .after ≡ d .before)
+      (d : Done) (form : Form) (buffer : List ℕ) → Made d → d .call ≡ WriteFile form buffer → d .number ≡ 0
+      → Written (fileOf form (d .before)) buffer (d .value) (d .lent) × (d .after ≡ d .before)
 
-  -- a file that is read leaves a ledger whose file it is, whatever the words were, and value 0
+  -- a file that is read leaves a ledger whose file, in that form, it is, whatever the words were, and value 0
   unfoldable pub CodeReads : Type 0
   CodeReads =
-      (d : Done) (file : List ℕ) → Made d → d .call ≡ ReadFirst file → d .number ≡ 0
-      → Ledger (d .after) × (dayFile (d .after) ≡ file) × (d .value ≡ pos 0)
+      (d : Done) (form : Form) (file : List ℕ) → Made d → d .call ≡ ReadFile form file → d .number ≡ 0
+      → Ledger (d .after) × (fileOf form (d .after) ≡ file) × (d .value ≡ pos 0)
 
   -- by the index that a taken build left, a lookup on the same words gives what the plain search gives
   unfoldable pub CodeFinds : Type 0

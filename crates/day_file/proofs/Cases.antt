@@ -2,6 +2,7 @@
 -- workspaces. Files that are bad stand in ReadCases.antt.
 -- Every step is a call with its refusals, as a user would make it. The bytes are plain numbers, worked out by hand from the request's words.
 use mathlib.Core.Path.{_≡_, sym, ap, ap₂, _∙_}
+use mathlib.Core.Bool.{Bool}
 use mathlib.Core.List.{List, [], _∷_, _++_}
 use Prim.Native.Nat.{ℕ}
 use lib.IntN.{pos}
@@ -12,6 +13,8 @@ use Rattle.loops.specs.Total.{bit, total, greatest}
 use Rattle.loops.specs.Fill.{from}
 use Rattle.loops.specs.Rows.{walkFrom}
 use Rattle.terms.specs.declared.answer.Tested.{Tested}
+use Rattle.terms.specs.declared.form.Form.{Form}
+use Rattle.terms.specs.declared.form.Form.the-variants.{First, Second}
 use Rattle.terms.specs.Setting.{settingOf}
 use Rattle.terms.specs.Answers.{Outcome, Handover}
 use Rattle.terms.specs.Votes.{voteOf}
@@ -29,15 +32,19 @@ use Rattle.rules.proofs.Walk.{badRecordWalked, badSlotWalked, allZero, testWalk
 use Rattle.day_file.specs.Day.{Day, parentCount, holder, dayOf}
 use Rattle.day_file.specs.Bytes.{highFirst, joined, encode}
 use Rattle.day_file.specs.Decode.{valueOf, readMany, decode}
-use Rattle.day_file.specs.Replay.{inOrder, replayBy, replay, goodFileBy, goodFile}
-use Rattle.day_file.specs.Calls.{writeFirstBy, writeFirstCall, readFirstBy, readFirstCall}
+use Rattle.day_file.specs.Replay.{inOrder, replayBy, replay, goodFileBy, goodSecondBy, goodFile, goodSecond}
+use Rattle.day_file.specs.Calls.{writeFileBy, writeFileCall, readFileBy, readFileCall, moveFileBy, moveFileCall}
 
--- the calls that the cases make, here and in ReadCases.antt
+-- the calls that the cases make, here, in ReadCases.antt and in MarkCases.antt
 pub record CallsMade : Type 0 where
   pub book : List ℕ → ℕ → ℕ → List ℕ → Outcome
   pub poll : List ℕ → ℕ → List ℕ → Outcome
   pub write : List ℕ → List ℕ → Handover
   pub read : List ℕ → List ℕ → Outcome
+  pub writeSecond : List ℕ → List ℕ → Handover
+  pub readSecond : List ℕ → List ℕ → Outcome
+  pub moveFirst : List ℕ → List ℕ → Outcome
+  pub moveSecond : List ℕ → List ℕ → Outcome
 
 -- the calls of the law
 unfoldable pub theCalls : CallsMade
@@ -45,8 +52,12 @@ theCalls =
     record {
       book = bookCall;
       poll = pollCall;
-      write = writeFirstCall;
-      read = readFirstCall;
+      write = writeFileCall First;
+      read = readFileCall First;
+      writeSecond = writeFileCall Second;
+      readSecond = readFileCall Second;
+      moveFirst = moveFileCall First;
+      moveSecond = moveFileCall Second;
     }
 
 -- a number: the value of a taken call, a byte, or 1 for yes
@@ -298,19 +309,36 @@ says = exampleRows ++ secondRows ++ lateRows ++ aloneRows ++ laterRows ++ damage
 
 -- ---- computed with the test that walks
 
--- reading, with the day made once for its answer and its words
-abbrev readOnce : (Day → Outcome) → List ℕ → List ℕ → Outcome
-readOnce again w file =
-    let o = again (decode file) in
-    readFirstBy (goodFileBy (λ d. o)) (λ d. o) w file
+-- a good file of the form, where the day's calls give o
+abbrev goodOnce : Outcome → Form → List ℕ → Bool
+goodOnce o First = goodFileBy (λ d. o)
+goodOnce o Second = goodSecondBy (λ d. o)
+
+-- reading and moving, where the day's calls give o
+abbrev pub readWith : Outcome → Form → List ℕ → List ℕ → Outcome
+readWith o form w file = readFileBy (goodOnce o) (λ d. o) form w file
+
+abbrev pub moveWith : Outcome → Form → List ℕ → List ℕ → Outcome
+moveWith o form file out = moveFileBy (goodOnce o) (λ d. o) form file out
+
+-- with the day made once for its answer and its words
+abbrev readOnce : (Day → Outcome) → Form → List ℕ → List ℕ → Outcome
+readOnce again form w file = let o = again (decode file) in readWith o form w file
+
+abbrev moveOnce : (Day → Outcome) → Form → List ℕ → List ℕ → Outcome
+moveOnce again form file out = let o = again (decode file) in moveWith o form file out
 
 abbrev pub made : (List ℕ → Tested) → CallsMade
 made test =
     record {
       book = bookBy test;
       poll = pollBy test;
-      write = writeFirstBy test;
-      read = readOnce (replayBy test);
+      write = writeFileBy test First;
+      read = readOnce (replayBy test) First;
+      writeSecond = writeFileBy test Second;
+      readSecond = readOnce (replayBy test) Second;
+      moveFirst = moveOnce (replayBy test) First;
+      moveSecond = moveOnce (replayBy test) Second;
     }
 
 example-walked : Passes (sameTable (example (made testWalked)) exampleRows)
@@ -339,7 +367,7 @@ damaged-walked = tt
 
 -- one ledger's rows, by the calls of the law
 pub rows-by : (rows : CallsMade → List (List Got)) (said : List (List Got)) → Passes (sameTable (rows (made testWalked)) said) → rows theCalls ≡ said
-unfolding theCalls bookCall pollCall writeFirstCall readFirstCall goodFile replay
+unfolding theCalls bookCall pollCall writeFileCall readFileCall moveFileCall goodFile goodSecond replay
 rows-by rows said walked = ap (λ test. rows (made test)) (sym test-walked-is) ∙ same-table (rows (made testWalked)) said (passes _ walked)
 
 -- the statement: the cases are as the request says

@@ -1,4 +1,4 @@
--- CR 2, CR 4 and CR 7: reading undoes writing. Each part is read off the front of its bytes, whatever follows them, so the parts can be read one after the other:
+-- CR 2, CR 4, CR 7 and CR 9: reading undoes writing. Each part is read off the front of its bytes, whatever follows them, so the parts can be read one after the other:
 -- numbers, lists after their count, bookings, polls, the day. Two days with the same bytes are then the same day. Assumes nothing.
 use mathlib.Core.Path.{_≡_, refl, sym, ap, ap₂, _∙_}
 use mathlib.Core.Bool.{Bool, true, false, cond}
@@ -27,7 +27,9 @@ use Rattle.day_file.specs.Decode.{
   readSetting,
   readBooking,
   readPoll,
+  readDay,
   decode,
+  behindDay,
 }
 
 -- a reader that undoes a writer, whatever follows: it reads what was written, and leaves what follows
@@ -191,14 +193,22 @@ poll-undone =
 
 -- ---- the day
 
+day-undone : Undone encode readDay DayFits
+unfolding encode
+day-undone =
+    parts-undone (both-undone (both-undone setting-undone (counted-undone booking-undone)) (counted-undone poll-undone))
+    (λ d. ((d .setting, d .bookings), d .polls)) (λ p. record { setting = p .0 .0; bookings = p .0 .1; polls = p .1 }) (λ d. refl)
+    DayFits (λ d fits. ((fits .setting, fits .bookings), fits .polls))
+
 -- the day that stands at the front of some bytes is what they are read as
 pub decode-front : (d : Day) → DayFits d → (r : List ℕ) → decode (encode d ++ r) ≡ d
-unfolding encode decode
-decode-front d fits r =
-    ap (λ o. o .value)
-    (parts-undone (both-undone (both-undone setting-undone (counted-undone booking-undone)) (counted-undone poll-undone))
-    (λ d. ((d .setting, d .bookings), d .polls)) (λ p. record { setting = p .0 .0; bookings = p .0 .1; polls = p .1 }) (λ d. refl)
-    DayFits (λ d fits. ((fits .setting, fits .bookings), fits .polls)) .undoes d fits r)
+unfolding decode
+decode-front d fits r = ap (λ o. o .value) (day-undone .undoes d fits r)
+
+-- and the others stand behind it
+pub behind-front : (d : Day) → DayFits d → (r : List ℕ) → behindDay (encode d ++ r) ≡ r
+unfolding behindDay
+behind-front d fits r = ap (λ o. o .rest) (day-undone .undoes d fits r)
 
 -- so a day's own file is read as that day
 pub decode-encode : (d : Day) → DayFits d → decode (encode d) ≡ d

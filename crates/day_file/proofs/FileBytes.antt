@@ -19,7 +19,7 @@ AreBytes l = (k : ℕ) → getD l k 0 < 256
 
 -- ---- what is written
 
-bytes-append : (a b : List ℕ) → AreBytes a → AreBytes b → AreBytes (a ++ b)
+pub bytes-append : (a b : List ℕ) → AreBytes a → AreBytes b → AreBytes (a ++ b)
 bytes-append [] b p q k = q k
 bytes-append (x ∷ a) b p q zero = p 0
 bytes-append (x ∷ a) b p q (suc k) = bytes-append a b (λ j. p (suc j)) q k
@@ -39,7 +39,7 @@ module _ {A : Type 0} (bytes : A → List ℕ) (each : (x : A) → AreBytes (byt
   counted-bytes : (xs : List A) → AreBytes (counted bytes xs)
   counted-bytes xs = bytes-append (numberBytes (length xs)) (joined bytes xs) (highFirst-bytes 2 (length xs)) (joined-bytes xs)
 
-numbers-bytes : (ns : List ℕ) → AreBytes (counted numberBytes ns)
+pub numbers-bytes : (ns : List ℕ) → AreBytes (counted numberBytes ns)
 numbers-bytes = counted-bytes numberBytes (highFirst-bytes 2)
 
 booking-bytes : (b : DayBooking) → AreBytes (bookingBytes b)

@@ -5,12 +5,16 @@ pub mod Parents
 pub mod Lengths
 pub mod Codec
 pub mod ReadMany
-pub mod SameBytes
+pub mod SameList
 pub mod FileBytes
 pub mod Holders
 pub mod Polls
 pub mod Fits
 pub mod SameDay
 pub mod Laid
+pub mod MarksSoFar
+pub mod Remarked
+pub mod SecondFile
 pub mod Cases
 pub mod ReadCases
+pub mod MarkCases

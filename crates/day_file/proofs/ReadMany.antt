@@ -1,11 +1,12 @@
 -- Laws of things read one after the other: how many there are, which stands where, and one more. Assumes nothing.
 use mathlib.Core.Path.{_≡_, refl, ap, _∙_}
 use mathlib.Core.List.{List, [], _∷_, _++_}
-use Prim.Native.Nat.{ℕ, zero, suc, _+_, _<_}
+use Prim.Native.Nat.{ℕ, zero, suc, _+_, _*_, _<_}
 use native.Mathlib.Numerals.{add-one}
 use native.Mathlib.Omega.{arith}
-use lib.ListN.{length, getD}
-use Rattle.day_file.specs.Decode.{Read, readMany}
+use lib.ListN.{length, getD, drop}
+use lib.Seq.{drop-drop}
+use Rattle.day_file.specs.Decode.{Read, readNumber, readMany}
 
 module _ {A : Type 0} (read : List ℕ → Read A) where
   -- so many were asked for, so many there are
@@ -38,3 +39,12 @@ module _ {A : Type 0} (read : List ℕ → Read A) where
         rest = read (readMany read j bytes .rest) .rest;
       }
   readMany-more j bytes = ap (λ m. readMany read m bytes) (add-one j) ∙ readMany-suc j bytes
+
+-- ---- numbers of two bytes
+
+pub numbers-leave : (n : ℕ) (bytes : List ℕ) → readMany readNumber n bytes .rest ≡ drop (2 * n) bytes
+unfolding readMany
+numbers-leave zero bytes = refl
+numbers-leave (suc n) bytes =
+    let past : 2 + 2 * n ≡ 2 * suc n = omega arith in
+    numbers-leave n (drop 2 bytes) ∙ drop-drop (2 * n) 2 bytes ∙ ap (λ k. drop k bytes) past

@@ -1,11 +1,13 @@
--- CR 2 and CR 7: the bytes of a day. Three sections, each after its count; numbers in two bytes, names in eight, high byte first.
+-- CR 2, CR 7 and CR 9: the bytes of a day. Three sections, in the second form four, each after its count; numbers in two bytes, names in eight, high byte first.
 use Prim.Native.Nat.{ℕ, zero, suc, _/_, _%_, _^_}
 use mathlib.Core.List.{List, [], _∷_, _++_}
 use lib.ListN.{length}
 use Rattle.loops.specs.Total.{bit}
 use Rattle.terms.specs.declared.setting.Setting.{Setting}
 use Rattle.terms.specs.Setting.{settingNumbers}
-use Rattle.day_file.specs.Day.{DayBooking, DayPoll, Day, dayOf}
+use Rattle.terms.specs.declared.form.Form.{Form}
+use Rattle.terms.specs.declared.form.Form.the-variants.{First, Second}
+use Rattle.day_file.specs.Day.{DayBooking, DayPoll, Day, MarkedDay, dayOf, markedDayOf}
 
 -- the lowest bytes of a number, so many of them, high byte first
 unfoldable pub highFirst : ℕ → ℕ → List ℕ
@@ -53,7 +55,21 @@ pollsSection = counted pollBytes
 unfoldable pub encode : Day → List ℕ
 encode d = settingSection (d .setting) ++ bookingsSection (d .bookings) ++ pollsSection (d .polls)
 
+-- fourth: how many bookings are marked, then their numbers
+abbrev pub marksSection : List ℕ → List ℕ
+marksSection = counted numberBytes
+
+-- behind the three
+abbrev pub encodeMarked : MarkedDay → List ℕ
+encodeMarked m = encode (m .day) ++ marksSection (m .marks)
+
 -- ---- the file of the day that words hold
 
+-- in the first form
 abbrev pub dayFile : List ℕ → List ℕ
 dayFile w = encode (dayOf w)
+
+-- in either form
+abbrev pub fileOf : Form → List ℕ → List ℕ
+fileOf First w = dayFile w
+fileOf Second w = encodeMarked (markedDayOf w)

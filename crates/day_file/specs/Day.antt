@@ -1,13 +1,14 @@
 -- CR 2: what a day file carries of a ledger, as a day: the setting, the bookings in the order of their numbers, the polls in the order of their ordinals.
+-- CR 9: in its second form, the marks beside it.
 use Prim.Native.Nat.{ℕ, zero, suc, _-_}
 use mathlib.Core.Bool.{Bool, false}
 use mathlib.Core.List.{List, []}
 use lib.ListN.{getD}
 use lib.Dec.{eqb}
 use Rattle.loops.specs.Search.{first}
-use Rattle.loops.specs.Fill.{from}
+use Rattle.loops.specs.Fill.{from, chosen}
 use Rattle.terms.specs.declared.setting.Setting.{Setting}
-use Rattle.rules.specs.Layout.{mostParents, none, bookings, settingIn, polls, nameOf, slotOf, parentOf, stateOf, ordinalOf}
+use Rattle.rules.specs.Layout.{mostParents, none, bookings, settingIn, polls, nameOf, slotOf, parentOf, stateOf, ordinalOf, isMarked}
 
 -- a booking: its name, its slot, and its parents' numbers in the order given
 pub record DayBooking : Type 0 where
@@ -25,6 +26,11 @@ pub record Day : Type 0 where
   pub bookings : List DayBooking
   pub polls : List DayPoll
 
+-- a day, and the numbers of its marked bookings
+pub record MarkedDay : Type 0 where
+  pub day : Day
+  pub marks : List ℕ
+
 -- ---- the rows of a day, by number
 
 -- the booking after j others, which has number j + 1
@@ -35,6 +41,11 @@ bookingIn bs j = getD bs j (record { name = 0; slot = 0; parents = [] })
 abbrev pub nameIn : List DayBooking → ℕ → ℕ
 nameIn bs zero = 0
 nameIn bs (suc j) = bookingIn bs j .name
+
+-- its slot: the genesis has 0
+abbrev pub slotIn : List DayBooking → ℕ → ℕ
+slotIn bs zero = 0
+slotIn bs (suc j) = bookingIn bs j .slot
 
 -- the poll after q others
 abbrev pub pollIn : List DayPoll → ℕ → DayPoll
@@ -73,3 +84,10 @@ dayOf w =
       bookings = from (bookingAt w) 1 (bookings w - 1);
       polls = from (λ ordinal. pollOf w (holder w ordinal)) 1 (polls w);
     }
+
+-- the marked bookings in rising number, the genesis among them
+unfoldable pub marksOf : List ℕ → List ℕ
+marksOf w = chosen (isMarked w) (bookings w)
+
+abbrev pub markedDayOf : List ℕ → MarkedDay
+markedDayOf w = record { day = dayOf w; marks = marksOf w }

@@ -1,4 +1,4 @@
--- CR 4 and CR 7: the day that bytes are read as. A reader takes what it needs off the front and leaves the bytes that follow; where bytes are missing it reads
+-- CR 4, CR 7 and CR 9: the day that bytes are read as. A reader takes what it needs off the front and leaves the bytes that follow; where bytes are missing it reads
 -- zeros. So every list of bytes is read as some day. Whether it is the file of that day is asked by writing the day again (Replay.antt).
 use Prim.Native.Nat.{ℕ, zero, suc, _+_, _*_, _^_}
 use mathlib.Core.List.{List, [], _∷_}
@@ -6,7 +6,7 @@ use lib.ListN.{getD, drop}
 use lib.Dec.{eqb}
 use Rattle.terms.specs.declared.setting.Setting.{Setting}
 use Rattle.terms.specs.Setting.{settingOf}
-use Rattle.day_file.specs.Day.{DayBooking, DayPoll, Day}
+use Rattle.day_file.specs.Day.{DayBooking, DayPoll, Day, MarkedDay}
 
 -- what was read, and the bytes behind it
 pub record Read (A : Type 0) : Type 0 where
@@ -66,9 +66,24 @@ readPoll bytes =
     record { value = record { booking = booking .value; success = eqb (outcome .value) 1 }; rest = outcome .rest }
 
 -- the three in their order
-unfoldable pub decode : List ℕ → Day
-decode file =
+abbrev pub readDay : List ℕ → Read Day
+readDay file =
     let setting = readSetting file in
     let bookings = readCounted readBooking (setting .rest) in
     let polls = readCounted readPoll (bookings .rest) in
-    record { setting = setting .value; bookings = bookings .value; polls = polls .value }
+    record { value = record { setting = setting .value; bookings = bookings .value; polls = polls .value }; rest = polls .rest }
+
+unfoldable pub decode : List ℕ → Day
+decode file = readDay file .value
+
+-- what stands behind the three
+unfoldable pub behindDay : List ℕ → List ℕ
+behindDay file = readDay file .rest
+
+-- the marks that the fourth section is read as
+abbrev pub marksIn : (section : List ℕ) → List ℕ
+marksIn section = readCounted readNumber section .value
+
+-- in the second form
+abbrev pub decodeMarked : List ℕ → MarkedDay
+decodeMarked file = record { day = decode file; marks = marksIn (behindDay file) }

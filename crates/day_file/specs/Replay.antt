@@ -1,4 +1,4 @@
--- CR 4: a day made again by the calls of the law, an opening, then its bookings, then its polls; and when a file is good.
+-- CR 4 and CR 9: a day made again by the calls of the law, an opening, then its bookings, then its polls; and when a file is good, in either form.
 use Prim.Native.Nat.{ℕ}
 use mathlib.Core.Bool.{Bool, _&&_, cond}
 use mathlib.Core.List.{List, [], _∷_}
@@ -15,8 +15,9 @@ use Rattle.terms.specs.Answers.{Outcome, outcome, isTaken}
 use Rattle.rules.specs.Layout.{size, bookings, settingIn, nameOf}
 use Rattle.rules.specs.Calls.{testOf, openCall, bookBy, pollBy}
 use Rattle.day_file.specs.Day.{DayBooking, DayPoll, Day}
-use Rattle.day_file.specs.Bytes.{encode}
-use Rattle.day_file.specs.Decode.{decode}
+use Rattle.day_file.specs.Bytes.{encode, encodeMarked}
+use Rattle.day_file.specs.Decode.{decode, decodeMarked}
+use Rattle.day_file.specs.Marks.{marksGood}
 
 -- ---- a day's numbers as the calls' arguments
 
@@ -67,13 +68,22 @@ replay = replayBy testOf
 
 -- ---- a good file
 
--- the same bytes
-abbrev pub sameBytes : List ℕ → List ℕ → Bool
-sameBytes a b = eqb (length a) (length b) && all (λ j. eqb (getD a j 0) (getD b j 0)) (length a)
+-- the same numbers, and as many; bytes are numbers too
+abbrev pub sameList : List ℕ → List ℕ → Bool
+sameList a b = eqb (length a) (length b) && all (λ j. eqb (getD a j 0) (getD b j 0)) (length a)
 
 -- its bytes are those of the day that they are read as, none missing and none left over, and each of that day's calls is taken
 abbrev pub goodFileBy : (Day → Outcome) → List ℕ → Bool
-goodFileBy made file = sameBytes (encode (decode file)) file && isTaken (made (decode file) .answer)
+goodFileBy made file = sameList (encode (decode file)) file && isTaken (made (decode file) .answer)
 
 unfoldable pub goodFile : List ℕ → Bool
 goodFile = goodFileBy replay
+
+-- in the second form: its bytes are those of the marked day that they are read as, each of the day's calls is taken, and the marks are good
+abbrev pub goodSecondBy : (Day → Outcome) → List ℕ → Bool
+goodSecondBy made file =
+    let m = decodeMarked file in
+    sameList (encodeMarked m) file && isTaken (made (m .day) .answer) && marksGood (m .day .bookings) (m .marks)
+
+unfoldable pub goodSecond : List ℕ → Bool
+goodSecond = goodSecondBy replay

@@ -6,6 +6,8 @@
 //   ..        the bookings: 8 of name, 2 of slot, 2 of how many parents, 2 for each parent
 //   ..        how many polls: two bytes
 //   ..        the polls: 2 of booking, 2 of outcome
+//   ..        in the second form, how many marks: two bytes
+//   ..        the marks: 2 of booking
 pub const NUMBER_BYTES: usize = 2;
 
 // How many numbers a setting has without the edition, and with it.
@@ -39,3 +41,6 @@ pub const POLL_BYTES: usize = 4;
 
 // No booking and no poll, in edition 0.
 pub const LEAST_FILE: usize = 14;
+
+// The genesis is marked.
+pub const LEAST_MARKS: usize = 4;

@@ -16,11 +16,11 @@ use Rattle.rules.specs.Layout.{mostBookings}
 use Rattle.day_file.specs.Day.{DayBooking, DayPoll, Day, bookingIn}
 use Rattle.day_file.specs.Bytes.{numberBytes, joined, settingSection, bookingBytes, bookingsSection, pollsSection, encode}
 use Rattle.day_file.specs.Decode.{Read, readMany, readCounted, readSetting, readBooking, readPoll, decode}
-use Rattle.day_file.specs.Replay.{sameBytes, replay, goodFile}
+use Rattle.day_file.specs.Replay.{sameList, replay, goodFile}
 use Rattle.day_file.specs.DayRules.{nameFree, bookingPasses, pollPasses, dayGood}
 use Rattle.day_file.proofs.Lengths.{length-encode}
 use Rattle.day_file.proofs.ReadMany.{length-readMany}
-use Rattle.day_file.proofs.SameBytes.{same-bytes, bytes-same}
+use Rattle.day_file.proofs.SameList.{same-list, list-same}
 use Rattle.promises.proofs.Replayed.{replay-good}
 use Rattle.day_judge.specs.Parts.{settingEnd, SettingGood, behind, fieldsGood, parentsGood, rowGood, BookingsGood, PollsGood}
 use Rattle.day_judge.proofs.Walk.{left-is, many-leave}
@@ -90,11 +90,11 @@ module _ (d : Day) where
 module _ (file : List ℕ) (good : goodFile file ≡ true) where
   good-bytes : encode (decode file) ≡ file
   unfolding goodFile
-  good-bytes = same-bytes (encode (decode file)) file (and-left (sameBytes (encode (decode file)) file) (isTaken (replay (decode file) .answer)) good)
+  good-bytes = same-list (encode (decode file)) file (and-left (sameList (encode (decode file)) file) (isTaken (replay (decode file) .answer)) good)
 
   good-rules : dayGood (decode file) ≡ true
   unfolding goodFile
-  good-rules = sym (replay-good (decode file)) ∙ and-right (sameBytes (encode (decode file)) file) (isTaken (replay (decode file) .answer)) good
+  good-rules = sym (replay-good (decode file)) ∙ and-right (sameList (encode (decode file)) file) (isTaken (replay (decode file) .answer)) good
 
   pub good-least : 14 ≤ length file
   good-least = omega (arith, length-encode (decode file), ap length good-bytes)
@@ -167,6 +167,6 @@ module _ (file sections : List ℕ) (here : sections ≡ drop (settingEnd file) 
       let bytes : encode day ≡ file = encode-setting day ∙ ap (λ t. settingSection (readSetting file .value) ++ t) (counted-laid ∙ here) ∙ sym (setting .laid) in
       let rules : dayGood day ≡ true =
       all-ruled day (setting .rules) (ap (all (bookingPasses bookings)) many ∙ booked .rules) (ap (λ m. all (pollPasses m polls) (length polls)) many ∙ polled .rules) in
-      and-both (sameBytes (encode (decode file)) file) (isTaken (replay (decode file) .answer))
-      (bytes-same (encode (decode file)) file (ap encode (day-is setting) ∙ bytes))
+      and-both (sameList (encode (decode file)) file) (isTaken (replay (decode file) .answer))
+      (list-same (encode (decode file)) file (ap encode (day-is setting) ∙ bytes))
       (replay-good (decode file) ∙ ap dayGood (day-is setting) ∙ rules)

@@ -17,12 +17,12 @@ use Rattle.rules.specs.Open.{opened}
 use Rattle.day_file.specs.Day.{DayBooking, DayPoll, Day, bookingIn, pollIn}
 use Rattle.day_file.specs.Bytes.{highFirst, numberBytes, joined, counted, settingSection, bookingBytes, bookingsSection, pollBytes, pollsSection, encode}
 use Rattle.day_file.specs.Decode.{Read, readBooking, readPoll, decode}
-use Rattle.day_file.specs.Replay.{sameBytes, replay, goodFile}
+use Rattle.day_file.specs.Replay.{sameList, replay, goodFile}
 use Rattle.day_file.specs.InTurn.{rebooked, repolled}
 use Rattle.day_file.proofs.Joined.{length-counted}
 use Rattle.day_file.proofs.Codec.{DayFits, booking-undone, poll-undone}
 use Rattle.day_file.proofs.FileBytes.{AreBytes, encode-bytes, decode-fits}
-use Rattle.day_file.proofs.SameBytes.{same-bytes}
+use Rattle.day_file.proofs.SameList.{same-list}
 use Rattle.day_file.proofs.Lengths.{length-settingNumbers, editionLength-most, length-encode, length-bookingBytes, length-pollBytes}
 use Rattle.day_replay.specs.Rows.{behindSetting, Rebookable, Repollable, rebookedOnce, repolledOnce, Replayed}
 use Rattle.promises.proofs.Stages.{stage-opened, stage-ledger, stage-booked, stage-polls, stage-poll-ledger, stage-polled, stage-ends}
@@ -44,11 +44,11 @@ module _ (file : List ℕ) (good : goodFile file ≡ true) where
 
   same : encode d ≡ file
   unfolding goodFile
-  same = same-bytes (encode d) file (and-left _ _ good)
+  same = same-list (encode d) file (and-left _ _ good)
 
   pub taken : isTaken (replay d .answer) ≡ true
   unfolding goodFile
-  taken = and-right (sameBytes (encode d) file) _ good
+  taken = and-right (sameList (encode d) file) _ good
 
   fits : DayFits d
   fits = decode-fits file (subst AreBytes same (encode-bytes d))

@@ -14,15 +14,16 @@ use Rattle.loops.specs.Total.{total}
 use Rattle.loops.proofs.Fill.{length-from}
 use Rattle.terms.specs.declared.setting.Setting.{Setting}
 use Rattle.terms.specs.Setting.{settingNumbers}
-use Rattle.rules.specs.Layout.{kField, header, bookings, settingIn, polls}
+use Rattle.rules.specs.Layout.{kField, header, bookings, settingIn, polls, markOf}
 use Rattle.rules.specs.Sound.{Ledger}
 use Rattle.put.specs.Put.{Put}
 use Rattle.put.proofs.Puts.{put-none, put-then, put-past, put-length, sets-append}
-use Rattle.day_file.specs.Day.{bookingAt, holder, pollOf}
-use Rattle.day_file.specs.Bytes.{highFirst, numberBytes, joined, settingSection, bookingBytes, bookingsSection, pollBytes, pollsSection}
+use Rattle.day_file.specs.Day.{bookingAt, holder, pollOf, marksOf}
+use Rattle.day_file.specs.Bytes.{highFirst, numberBytes, joined, settingSection, bookingBytes, bookingsSection, pollBytes, pollsSection, marksSection}
 use Rattle.day_file.specs.InTurn.{editionLength, bookingLength, pairAt}
 use Rattle.day_file.proofs.Joined.{joined-append, joined-more, length-highFirst, length-joined-even}
 use Rattle.day_file.proofs.Lengths.{length-settingNumbers, length-bookings}
+use Rattle.day_file.proofs.MarksSoFar.{marksSoFar, marks-none, marks-whole, marked-more, unmarked-more}
 use Rattle.day_file.proofs.Polls.{polls-in-order}
 
 -- ---- the setting
@@ -118,3 +119,35 @@ polls-all w ledger out {counted} {count} room e p =
     ∙ ap (λ l. sets l 2 (joined pollBytes ordered)) (p .after)
     ∙ sym (sets-append out 0 (numberBytes count) (joined pollBytes ordered))
     ∙ ap (λ n. sets out 0 (numberBytes n ++ joined pollBytes ordered)) (e ∙ sym (length-from (λ ordinal. pollOf w (holder w ordinal)) 1 (polls w)))
+
+-- ---- marks
+
+module _ (w : List ℕ) where
+  -- those of the first i bookings are written
+  abbrev pub marksPut : List ℕ → ℕ → ℕ → ℕ → List ℕ → Type 0
+  marksPut out at i r out′ = Put out at (joined numberBytes (marksSoFar w i)) r out′
+
+  pub marks-past : (i : ℕ) {out out′ : List ℕ} {at r : ℕ} → marksPut out at i r out′ → (r ≡ at + 2 * length (marksSoFar w i)) × (length out′ ≡ length out)
+  marks-past i p = put-past (2 * length (marksSoFar w i)) (length-joined-even numberBytes 2 (length-highFirst 2) (marksSoFar w i)) p
+
+  pub no-mark-put : (out : List ℕ) (at : ℕ) → marksPut out at 0 at out
+  unfolding joined
+  no-mark-put out at = rw (marks-none w) (put-none out at)
+
+  pub mark-put : (i : ℕ) {v m n at : ℕ} {out out₁ out₂ : List ℕ} → v ≡ markOf w i → v ≡ 1 → marksPut out at i m out₁ → Put out₁ m (numberBytes i) n out₂
+      → marksPut out at (i + 1) n out₂
+  unfolding joined
+  mark-put i {n = n} {at = at} {out = out} {out₂ = out₂} e one p q =
+      let told : joined numberBytes (marksSoFar w i) ++ numberBytes i ≡ joined numberBytes (marksSoFar w (i + 1)) =
+      ap (λ l. joined numberBytes (marksSoFar w i) ++ l) (sym (append-nil (numberBytes i)))
+      ∙ sym (joined-append numberBytes (marksSoFar w i) (i ∷ []))
+      ∙ ap (joined numberBytes) (sym (marked-more w i e one)) in
+      subst (λ l. Put out at l n out₂) told (put-then p q)
+
+  pub none-put : (i : ℕ) {v m at : ℕ} {out out₁ : List ℕ} → v ≡ markOf w i → v ≢ 1 → marksPut out at i m out₁ → marksPut out at (i + 1) m out₁
+  none-put i {m = m} {at = at} {out = out} {out₁ = out₁} e other p = subst (λ l. Put out at (joined numberBytes l) m out₁) (sym (unmarked-more w i e other)) p
+
+  -- behind their count
+  pub marks-all : {count : ℕ} {out out₁ out₂ : List ℕ} {m n : ℕ} → count ≡ length (marksOf w) → Put out 0 (numberBytes count) m out₁ → marksPut out₁ m (bookings w) n out₂
+      → out₂ ≡ sets out 0 (marksSection (marksOf w))
+  marks-all {out = out} e p q = put-then p q .after ∙ ap₂ (λ c l. sets out 0 (numberBytes c ++ joined numberBytes l)) e (sym (marks-whole w))

@@ -1,5 +1,5 @@
 // The sections of the day file, on words that are known to be a ledger: each is written to the front of what it is lent, and every byte past it stays.
-// And how long the whole file is.
+// And how long the first form is.
 use day_file::bytes;
 use rules::layout;
 ghost use mathlib.Core.Path.{_≡_};
@@ -9,11 +9,11 @@ ghost use lib.Seq.{sets};
 ghost use Rattle.loops.specs.Fill.{from};
 ghost use Rattle.loops.specs.Total.{total};
 ghost use Rattle.terms.specs.Setting.{settingNumbers};
-ghost use Rattle.rules.specs.Layout.{size, bookings, settingIn, polls};
+ghost use Rattle.rules.specs.Layout.{size, mostBookings, bookings, settingIn, polls};
 ghost use Rattle.rules.specs.Sound.{Ledger};
 ghost use Rattle.put.specs.Put.{Put};
-ghost use Rattle.day_file.specs.Day.{bookingAt, pollOf, holder};
-ghost use Rattle.day_file.specs.Bytes.{settingSection, bookingsSection, pollsSection, dayFile};
+ghost use Rattle.day_file.specs.Day.{bookingAt, pollOf, holder, marksOf};
+ghost use Rattle.day_file.specs.Bytes.{settingSection, bookingsSection, pollsSection, marksSection, dayFile};
 ghost use Rattle.day_file.specs.InTurn.{editionLength, bookingLength};
 
 // How many numbers tell the setting: edition 0 is not written.
@@ -78,5 +78,34 @@ pub fn put_polls(w: &[u16], out: &mut [u8])
     day_put::put_number(out, 0, words::header(w, layout::POLLS));
     for i in 0..n {
         day_rows::put_poll(w, i, out);
+    }
+}
+
+// How many bookings are marked.
+pub fn mark_count(w: &[u16]) -> usize
+    requires { ⌜ (length (now w) ≡ size) × (bookings (now w) ≤ mostBookings) ⌝ }
+    ensures { λ r. ⌜ r ≡ length (marksOf (now (w .entry))) ⌝ }
+{
+    let n = words::wide(words::header(w, layout::BOOKINGS));
+    let mut marks = 0;
+    for i in 0..n {
+        if words::field(w, i, layout::MARK) == 1 {
+            marks = marks + 1;
+        }
+    }
+    marks
+}
+
+// The fourth, in the second form: how many bookings are marked, and their numbers.
+pub fn put_marks(w: &[u16], out: &mut [u8])
+    requires { ⌜ (length (now w) ≡ size) × (bookings (now w) ≤ mostBookings) × (2 + 2 * length (marksOf (now w)) ≤ length (now out)) ⌝ }
+    ensures { λ _. ⌜ now (out .exit) ≡ sets (now (out .entry)) 0 (marksSection (marksOf (now (w .entry)))) ⌝ }
+{
+    let n = words::wide(words::header(w, layout::BOOKINGS));
+    let mut next = day_put::put_number(out, 0, mark_count(w) as u16);
+    for i in 0..n {
+        if words::field(w, i, layout::MARK) == 1 {
+            next = day_put::put_number(out, next, i as u16);
+        }
     }
 }

@@ -1,2 +1,2 @@
--- Laws of a written file, cited by the proof of the function. They assume nothing.
+-- Laws of a written file, cited by the proofs of the functions. They assume nothing.
 pub mod Written

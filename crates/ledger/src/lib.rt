@@ -1,5 +1,6 @@
 // THE PUBLIC CALLS. Each takes any lent words and any arguments, needs no check first, and settles answer and all that it was lent by the law.
-// The readings stand in `ledger_reads` and are passed on.
+// The readings stand in `ledger_reads`, the move of a file in `day_move`, and are passed on.
+pub use day_move::move_file;
 pub use ledger_reads::accepted;
 pub use ledger_reads::confidence;
 pub use ledger_reads::lead;
@@ -9,13 +10,15 @@ use rules::layout;
 use terms::answer::Answer;
 use terms::answer::Refusal;
 use terms::answer::Tested;
+use terms::form::Form;
 use terms::setting::Setting;
 ghost use mathlib.Core.Path.{_≡_};
 ghost use lib.ListN.{length};
 ghost use Rattle.rules.specs.Layout.{size};
 ghost use Rattle.terms.specs.Answers.{outcome, handover};
 ghost use Rattle.rules.specs.Calls.{openCall, bookCall, pollCall};
-ghost use Rattle.day_file.specs.Calls.{writeFirstCall, readFirstCall};
+ghost use Rattle.terms.specs.declared.form.Form.the-variants.{First, Second};
+ghost use Rattle.day_file.specs.Calls.{writeFileCall, readFileCall};
 
 // The workspace becomes a ledger with the genesis only. Refusals 1, 3.
 pub fn open(w: &mut [u16], s: Setting) -> Answer
@@ -52,20 +55,20 @@ pub fn poll(w: &mut [u16], name: u64, votes: &[u8]) -> Answer
     }
 }
 
-// The day file, in its first form, to the front of a lent buffer. No word changes. Refusals 1, 2, 14, 15, 16.
-pub fn write_first(w: &[u16], out: &mut [u8]) -> Answer
-    ensures { λ r. ⌜ handover r (now (w .entry)) (now (out .exit)) ≡ writeFirstCall (now (w .entry)) (now (out .entry)) ⌝ }
+// The day file, in the form that is named, to the front of a lent buffer. No word changes. Refusals 1, 2, 14, 15, 16.
+pub fn write_file(w: &[u16], form: Form, out: &mut [u8]) -> Answer
+    ensures { λ r. ⌜ handover r (now (w .entry)) (now (out .exit)) ≡ writeFileCall form (now (w .entry)) (now (out .entry)) ⌝ }
 {
     match ledger_test::test(w) {
         Tested::Stop(refusal) => Answer::Refused(refusal),
-        Tested::Fine => known_write::write_first(w, out),
+        Tested::Fine => known_write::write(w, form, out),
     }
 }
 
-// The ledger that a file carries, into words of the right length. The file is judged before a word is touched.
-fn take_over(w: &mut [u16], file: &[u8]) -> Answer
+// The ledger that a first-form file carries, into words of the right length. The file is judged before a word is touched.
+fn take_first(w: &mut [u16], file: &[u8]) -> Answer
     requires { ⌜ length (now w) ≡ size ⌝ }
-    ensures { λ r. ⌜ outcome r (now (w .exit)) ≡ readFirstCall (now (w .entry)) (now (file .entry)) ⌝ }
+    ensures { λ r. ⌜ outcome r (now (w .exit)) ≡ readFileCall First (now (w .entry)) (now (file .entry)) ⌝ }
 {
     if !day_judge::is_good(file) {
         return Answer::Refused(Refusal::BadFile);
@@ -74,12 +77,29 @@ fn take_over(w: &mut [u16], file: &[u8]) -> Answer
     Answer::Taken(0)
 }
 
-// The words become the ledger that a day file, in its first form, carries. What they held before is not looked at. Refusals 1, 17.
-pub fn read_first(w: &mut [u16], file: &[u8]) -> Answer
-    ensures { λ r. ⌜ outcome r (now (w .exit)) ≡ readFirstCall (now (w .entry)) (now (file .entry)) ⌝ }
+// The same of a second-form file: what its first three sections carry, with its marks instead.
+fn take_second(w: &mut [u16], file: &[u8]) -> Answer
+    requires { ⌜ length (now w) ≡ size ⌝ }
+    ensures { λ r. ⌜ outcome r (now (w .exit)) ≡ readFileCall Second (now (w .entry)) (now (file .entry)) ⌝ }
+{
+    let end = day_marks::judge(file);
+    if end == 0 {
+        return Answer::Refused(Refusal::BadFile);
+    }
+    day_replay::replay(w, &file[..end]);
+    day_remark::remark(w, &file[end..]);
+    Answer::Taken(0)
+}
+
+// The words become the ledger that a day file, in the form that is named, carries. What they held before is not looked at. Refusals 1, 17.
+pub fn read_file(w: &mut [u16], form: Form, file: &[u8]) -> Answer
+    ensures { λ r. ⌜ outcome r (now (w .exit)) ≡ readFileCall form (now (w .entry)) (now (file .entry)) ⌝ }
 {
     if w.len() != layout::SIZE {
         return Answer::Refused(Refusal::WrongLength);
     }
-    take_over(w, file)
+    match form {
+        Form::First => take_first(w, file),
+        Form::Second => take_second(w, file),
+    }
 }

@@ -28,17 +28,16 @@ use Rattle.rules.specs.Poll.{polled}
 use Rattle.rules.specs.Readings.{readingOf}
 use Rattle.rules.specs.Listing.{listCall}
 use Rattle.rules.specs.Calls.{openAnswer, openCall, damageOf, testOf, besideOf, unlessStopped, tested, bookAnswer, bookCall, askedOf, pollAnswer, pollCall, readingCall}
-use Rattle.day_file.specs.Bytes.{dayFile}
-use Rattle.day_file.specs.Decode.{decode}
-use Rattle.day_file.specs.Replay.{replay, goodFile}
-use Rattle.day_file.specs.Calls.{laid, writeFirstAnswer, writeFirstCall, readFirstAnswer, readFirstCall}
+use Rattle.terms.specs.declared.form.Form.{Form}
+use Rattle.day_file.specs.Bytes.{fileOf}
+use Rattle.day_file.specs.Calls.{laid, writeFileAnswer, writeFileCall, goodIn, wordsIn, readFileAnswer, readFileCall}
 use Rattle.name_index.specs.Index.{lookUpIn, newest, withNumber, built}
 use Rattle.name_index.specs.Calls.{isWrongIndex, indexTested, enterAnswer, indexBuildCall, indexEnterCall, indexFindCall}
 use Rattle.rule_laws.proofs.Sound.{tests→Sound, header-kept, record-kept, slot-kept}
 use Rattle.rule_laws.proofs.RowRules.{Rules→headerGood, recordRow→Rules, Rules→recordRow, slotGood→Rules, Rules→slotGood}
 use Rattle.rule_laws.proofs.Calls.{leaves-answer, handsOver-answer}
 use Rattle.rule_laws.proofs.Tested.{tested-in-order, beside-in-order, beside-right}
-use Rattle.promises.specs.Run.{Call, Open, Book, Poll, Ask, WriteFirst, ReadFirst, IndexBuild, IndexEnter, IndexFind, outcomeOf}
+use Rattle.promises.specs.Run.{Call, Open, Book, Poll, Ask, WriteFile, ReadFile, IndexBuild, IndexEnter, IndexFind, outcomeOf}
 use Rattle.promises.specs.Damage.{SoundByRows, Lowest, NamesDamage, DamageNamed}
 
 pub sound-by-rows : SoundByRows
@@ -141,16 +140,16 @@ poll-names w name votes =
 reading-names : (f : ℕ → ℤ) (w : List ℕ) (name : ℕ) → NamesDamage w (number (readingCall f w name)) (value (readingCall f w name))
 reading-names f w name = tested-names w _ (other-asked (lookUp w name) _ (λ i. refl))
 
-write-names : (w buffer : List ℕ) → NamesDamage w (number (writeFirstCall w buffer .answer)) (value (writeFirstCall w buffer .answer))
-unfolding writeFirstCall
-write-names w buffer =
-    rw (handsOver-answer (writeFirstAnswer testOf w buffer) w buffer (laid (dayFile w) buffer)) (tested-names w _ (simp (other-cond, both-true)))
+write-names : (form : Form) (w buffer : List ℕ) → NamesDamage w (number (writeFileCall form w buffer .answer)) (value (writeFileCall form w buffer .answer))
+unfolding writeFileCall
+write-names form w buffer =
+    rw (handsOver-answer (writeFileAnswer testOf form w buffer) w buffer (laid (fileOf form w) buffer)) (tested-names w _ (simp (other-cond, both-true)))
 
-read-names : (w file : List ℕ) → NamesDamage w (number (readFirstCall w file .answer)) (value (readFirstCall w file .answer))
-unfolding readFirstCall
-read-names w file =
-    rw (leaves-answer (readFirstAnswer goodFile w file) w (replay (decode file) .words))
-    (other-names w (readFirstAnswer goodFile w file) (simp (other-cond, both-true)))
+read-names : (form : Form) (w file : List ℕ) → NamesDamage w (number (readFileCall form w file .answer)) (value (readFileCall form w file .answer))
+unfolding readFileCall
+read-names form w file =
+    rw (leaves-answer (readFileAnswer (goodIn form) w file) w (wordsIn form file))
+    (other-names w (readFileAnswer (goodIn form) w file) (simp (other-cond, both-true)))
 
 -- what begins with the test of words and index
 index-names : (w index : List ℕ) (rest : Answer) → isOther rest ≡ true
@@ -181,8 +180,8 @@ calls-name (Open s) w = open-names w s
 calls-name (Book name slot parents) w = book-names w name slot parents
 calls-name (Poll name votes) w = poll-names w name votes
 calls-name (Ask what name) w = reading-names (readingOf what w) w name
-calls-name (WriteFirst buffer) w = write-names w buffer
-calls-name (ReadFirst file) w = read-names w file
+calls-name (WriteFile form buffer) w = write-names form w buffer
+calls-name (ReadFile form file) w = read-names form w file
 calls-name (IndexBuild index) w = build-names w index
 calls-name (IndexEnter index) w = enter-names w index
 calls-name (IndexFind index name) w = find-names w index name

@@ -1,5 +1,5 @@
--- The promises of the day file: what the call leaves, by its cases; the file's length; and that the file tells the day and nothing else, from the laws of
--- day_file/proofs.
+-- The promises of the day file: what the call leaves, by its cases; the first form's length; and what two ledgers of the same day have in common, from the laws of
+-- day_file/proofs. SecondForm.antt has those that rest on the marks too.
 -- Rests on specs/DayFile.antt. Assumes nothing.
 use mathlib.Core.Path.{_≡_, refl, sym, ap, _∙_}
 use mathlib.Core.Bool.{Bool, true, false, cond}
@@ -14,6 +14,7 @@ use Rattle.loops.specs.Search.{first}
 use Rattle.loops.specs.Fill.{from}
 use Rattle.loops.proofs.Search.{firstFrom-same}
 use Rattle.loops.proofs.Fill.{from-agree}
+use Rattle.terms.specs.declared.form.Form.{Form}
 use Rattle.terms.specs.declared.answer.Refusal.the-variants.{ShortBuffer}
 use Rattle.terms.specs.declared.answer.Tested.{Tested}
 use Rattle.terms.specs.declared.answer.Tested.the-variants.{Fine, Stop}
@@ -26,52 +27,51 @@ use Rattle.rules.specs.Calls.{testOf, unlessStopped}
 use Rattle.rule_laws.proofs.Calls.{number-refused, handsOver-answer}
 use Rattle.rule_laws.proofs.Tested.{tested-known}
 use Rattle.day_file.specs.Day.{bookingAt, holder, pollOf, dayOf}
-use Rattle.day_file.specs.Bytes.{encode, dayFile}
-use Rattle.day_file.specs.Calls.{laid, writeFirstAnswer, writeFirstCall}
+use Rattle.day_file.specs.Bytes.{dayFile, fileOf}
+use Rattle.day_file.specs.Calls.{laid, laidAnswer, writeFileAnswer, writeFileCall}
 use Rattle.day_file.proofs.Laid.{length-laid, laid-front, laid-past}
 use Rattle.day_file.specs.InTurn.{editionLength}
 use Rattle.day_file.proofs.Lengths.{length-dayFile, dayFile-least, dayFile-most}
-use Rattle.day_file.proofs.Codec.{encode-same}
-use Rattle.day_file.proofs.Fits.{dayOf-fits}
 use Rattle.day_file.proofs.SameDay.{same-setting, same-bookings, same-name, same-slot, same-parent, same-polls, same-ordinal, same-state}
 use Rattle.day_file.proofs.Holders.{holder-below}
 use Rattle.promises.proofs.DayGrown.{bookingAt-same}
-use Rattle.promises.specs.DayFile.{Written, FileWritten, FileTaken, FileCounted, FileLength, WordsNamed, SameDay, SameFile, SameDayFile}
+use Rattle.promises.specs.DayFile.{Written, FileWritten, FileTaken, FileCounted, FileLength, WordsNamed, SameDay}
 
 -- ---- the call
 
+-- bytes laid at the front are written
+pub laid-written : (file buffer : List ℕ) → length file ≤ length buffer → Written file buffer (pos (length file)) (laid file buffer)
+laid-written file buffer room =
+    record {
+      room = room;
+      valued = refl;
+      long = length-laid file buffer room;
+      front = laid-front file buffer;
+      past = laid-past file buffer;
+    }
+
 pub file-written : FileWritten
-unfolding FileWritten writeFirstCall
-file-written w buffer taken = go (testOf w) (ltb (length buffer) (length (dayFile w))) refl taken
+unfolding FileWritten writeFileCall
+file-written form w buffer taken = go (testOf w) (ltb (length buffer) (length (fileOf form w))) refl taken
   where
     -- by what the test says, and by whether the buffer is short
     answer : Tested → Bool → Answer
-    answer t short = unlessStopped t (cond short (Refused ShortBuffer) (Taken (pos (length (dayFile w)))))
+    answer t short = unlessStopped t (cond short (Refused ShortBuffer) (Taken (pos (length (fileOf form w)))))
 
-    go : (t : Tested) (short : Bool) → ltb (length buffer) (length (dayFile w)) ≡ short
-        → let o = handsOver (answer t short) w buffer (laid (dayFile w) buffer) in number (o .answer) ≡ 0
-        → Written (dayFile w) buffer (value (o .answer)) (o .lent) × (o .words ≡ w)
+    go : (t : Tested) (short : Bool) → ltb (length buffer) (length (fileOf form w)) ≡ short
+        → let o = handsOver (answer t short) w buffer (laid (fileOf form w) buffer) in number (o .answer) ≡ 0
+        → Written (fileOf form w) buffer (value (o .answer)) (o .lent) × (o .words ≡ w)
     go (Stop r) short e h = absurd (number-refused r h)
     go Fine true e h = absurd (number-refused ShortBuffer h)
-    go Fine false e h =
-        let room = ltb-false (length buffer) (length (dayFile w)) e in (
-          record {
-            room = room;
-            valued = refl;
-            long = length-laid (dayFile w) buffer room;
-            front = laid-front (dayFile w) buffer;
-            past = laid-past (dayFile w) buffer;
-          },
-          refl,
-        )
+    go Fine false e h = (laid-written (fileOf form w) buffer (ltb-false (length buffer) (length (fileOf form w)) e), refl)
 
 pub file-taken : FileTaken
-unfolding FileTaken writeFirstCall
-file-taken w buffer ledger room =
+unfolding FileTaken writeFileCall
+file-taken form w buffer ledger room =
     rw (
-      handsOver-answer (writeFirstAnswer testOf w buffer) w buffer (laid (dayFile w) buffer),
-      tested-known w ledger (cond (ltb (length buffer) (length (dayFile w))) (Refused ShortBuffer) (Taken (pos (length (dayFile w))))),
-      le-ltb (length buffer) (length (dayFile w)) room,
+      handsOver-answer (writeFileAnswer testOf form w buffer) w buffer (laid (fileOf form w) buffer),
+      tested-known w ledger (laidAnswer (fileOf form w) buffer),
+      le-ltb (length buffer) (length (fileOf form w)) room,
     )
 
 -- ---- the file
@@ -102,10 +102,6 @@ same-day w u day lw lu =
       state = same-state w u day lw lu;
     }
 
-pub same-file : SameFile
-unfolding SameFile
-same-file w u lw lu nw nu e = same-day w u (encode-same (dayOf w) (dayOf u) (dayOf-fits w lw nw) (dayOf-fits u lu nu) e) lw lu
-
 -- ---- the same day gives the same file: each part of it is read off what the ledgers have in common
 
 module _ (w u : List ℕ) (ledger : Ledger w) (same : SameDay w u) where
@@ -123,7 +119,7 @@ module _ (w u : List ℕ) (ledger : Ledger w) (same : SameDay w u) where
       let state = same .state (holder w ordinal) (holder-below w (ledger .sound) ordinal l h) in
       (λ k. record { booking = holder w ordinal; success = eqb (state k) 2 }) ∙ ap (pollOf u) (holder-same ordinal)
 
-  day-same : dayOf w ≡ dayOf u
+  pub day-same : dayOf w ≡ dayOf u
   unfolding dayOf
   day-same =
       let bookings-same : from (bookingAt w) 1 (bookings w - 1) ≡ from (bookingAt u) 1 (bookings u - 1) =
@@ -133,7 +129,3 @@ module _ (w u : List ℕ) (ledger : Ledger w) (same : SameDay w u) where
       from-agree (λ o. pollOf w (holder w o)) (λ o. pollOf u (holder u o)) 1 (polls w) (λ o l v. poll-same o l (omega arith))
       ∙ ap (from (λ o. pollOf u (holder u o)) 1) (same .pollsSame) in
       λ k. record { setting = same .setting k; bookings = bookings-same k; polls = polls-same k }
-
-pub same-day-file : SameDayFile
-unfolding SameDayFile
-same-day-file w u ledger same = ap encode (day-same w u ledger same)

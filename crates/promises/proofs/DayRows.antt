@@ -7,9 +7,9 @@ use native.Mathlib.Omega.{arith}
 use lib.ListN.{length}
 use Rattle.loops.specs.Fill.{from}
 use Rattle.loops.proofs.Fill.{length-from, element-from}
-use Rattle.rules.specs.Layout.{bookings, settingIn, polls, nameOf}
+use Rattle.rules.specs.Layout.{bookings, settingIn, polls, nameOf, slotOf}
 use Rattle.rules.specs.Sound.{Ledger}
-use Rattle.day_file.specs.Day.{Day, bookingAt, holder, pollOf, dayOf, bookingIn, nameIn, pollIn}
+use Rattle.day_file.specs.Day.{Day, bookingAt, holder, pollOf, dayOf, bookingIn, nameIn, slotIn, pollIn}
 
 module _ (w : List ℕ) (d : Day) (e : dayOf w ≡ d) where
   pub setting-told : settingIn w ≡ d .setting
@@ -55,3 +55,7 @@ module _ (w : List ℕ) (d : Day) (e : dayOf w ≡ d) where
     pub name-told : (i : ℕ) → i < bookings w → nameIn (d .bookings) i ≡ nameOf w i
     name-told zero h = sym (ledger .sound .genesisName)
     name-told (suc j) h = ap (λ b. b .name) (booking-told j (omega (arith, bookings-told)))
+
+    pub slot-told : (i : ℕ) → i < bookings w → slotIn (d .bookings) i ≡ slotOf w i
+    slot-told zero h = sym (ledger .sound .genesisSlot)
+    slot-told (suc j) h = ap (λ b. b .slot) (booking-told j (omega (arith, bookings-told)))

@@ -15,7 +15,7 @@ use Rattle.rules.specs.Poll.{isSuccess, concluded, polled}
 use Rattle.rules.specs.Calls.{bookCall, pollCall}
 use Rattle.rule_laws.proofs.Words.{settingIn-kept}
 use Rattle.rule_laws.proofs.Marked.{entry-marked-kept}
-use Rattle.promises.specs.Run.{Open, Book, Poll, Ask, WriteFirst, ReadFirst, IndexBuild, IndexEnter, IndexFind, outcomeOf}
+use Rattle.promises.specs.Run.{Open, Book, Poll, Ask, WriteFile, ReadFile, IndexBuild, IndexEnter, IndexFind, outcomeOf}
 use Rattle.promises.specs.Editions.{SettingLasts, LastRestarts, FailureTold}
 use Rattle.promises.proofs.Taken.{Pollable, open-kept, book-taken, book-kept, poll-taken, poll-kept, write-words, read-kept, build-words, enter-words}
 use Rattle.promises.proofs.BookedWords.{settingIn-booked}
@@ -99,8 +99,8 @@ setting-lasts (Open s) w n = ap settingIn (open-kept w s n)
 setting-lasts (Book name slot parents) w n = setting-booked w name slot parents (isTaken (bookCall w name slot parents .answer)) refl
 setting-lasts (Poll name votes) w n = setting-poll w name votes (isTaken (pollCall w name votes .answer)) refl
 setting-lasts (Ask what name) w n = refl
-setting-lasts (WriteFirst buffer) w n = ap settingIn (write-words w buffer)
-setting-lasts (ReadFirst file) w n = ap settingIn (read-kept w file n)
+setting-lasts (WriteFile form buffer) w n = ap settingIn (write-words form w buffer)
+setting-lasts (ReadFile form file) w n = ap settingIn (read-kept form w file n)
 setting-lasts (IndexBuild index) w n = ap settingIn (build-words w index)
 setting-lasts (IndexEnter index) w n = ap settingIn (enter-words w index)
 setting-lasts (IndexFind index name) w n = refl

@@ -16,11 +16,11 @@ use Rattle.rules.specs.Sound.{Ledger}
 use Rattle.day_file.specs.Day.{bookingAt, dayOf}
 use Rattle.day_file.specs.Bytes.{encode, dayFile}
 use Rattle.day_file.specs.Decode.{decode}
-use Rattle.day_file.specs.Replay.{sameBytes, replay, goodFile}
+use Rattle.day_file.specs.Replay.{sameList, replay, goodFile}
 use Rattle.day_file.proofs.Codec.{Each, BookingFits, DayFits, decode-encode}
 use Rattle.promises.specs.DayFile.{Names64}
 use Rattle.day_file.proofs.Fits.{dayOf-fits}
-use Rattle.day_file.proofs.SameBytes.{same-bytes, bytes-same}
+use Rattle.day_file.proofs.SameList.{same-list, list-same}
 use Rattle.day_file.proofs.FileBytes.{encode-bytes, decode-fits}
 use Rattle.promises.proofs.Stages.{replay-ledger, replayed-day}
 use Rattle.promises.proofs.DayGood.{dayOf-good}
@@ -29,11 +29,11 @@ use Rattle.promises.proofs.Replayed.{replay-good}
 module _ (file : List ℕ) (good : goodFile file ≡ true) where
   pub file-encoded : encode (decode file) ≡ file
   unfolding goodFile
-  file-encoded = same-bytes (encode (decode file)) file (and-left _ _ good)
+  file-encoded = same-list (encode (decode file)) file (and-left _ _ good)
 
   pub replay-taken : isTaken (replay (decode file) .answer) ≡ true
   unfolding goodFile
-  replay-taken = and-right (sameBytes (encode (decode file)) file) _ good
+  replay-taken = and-right (sameList (encode (decode file)) file) _ good
 
   -- bytes that a day was written with are below 256, so what is read from them fits
   pub file-fits : DayFits (decode file)
@@ -57,7 +57,7 @@ decode-dayFile w ledger named = decode-encode (dayOf w) (dayOf-fits w ledger nam
 pub dayFile-good : (w : List ℕ) → Ledger w → Names64 w → goodFile (dayFile w) ≡ true
 unfolding goodFile
 dayFile-good w ledger named =
-    rw (decode-dayFile w ledger named, bytes-same (dayFile w) (dayFile w) refl, replay-good (dayOf w), dayOf-good w ledger)
+    rw (decode-dayFile w ledger named, list-same (dayFile w) (dayFile w) refl, replay-good (dayOf w), dayOf-good w ledger)
 
 -- what holds of each element holds of it at each number
 each-number : {A : Type 0} (P : A → Type 0) (f : ℕ → A) (i n : ℕ) → Each P (from f i n) → (j : ℕ) → i ≤ j → j < i + n → P (f j)

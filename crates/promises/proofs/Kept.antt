@@ -9,15 +9,16 @@ use Rattle.rules.specs.Book.{lookUp, numberOf}
 use Rattle.rules.specs.Calls.{openCall, bookCall, pollCall}
 use Rattle.rules.specs.Sound.{Ledger}
 use Rattle.rule_laws.proofs.Opened.{opened-ledger}
-use Rattle.day_file.specs.Calls.{readFirstCall}
-use Rattle.promises.specs.Run.{Call, Open, Book, Poll, Ask, WriteFirst, ReadFirst, IndexBuild, IndexEnter, IndexFind, outcomeOf, opens}
+use Rattle.terms.specs.declared.form.Form.{Form}
+use Rattle.day_file.specs.Calls.{readFileCall}
+use Rattle.promises.specs.Run.{Call, Open, Book, Poll, Ask, WriteFile, ReadFile, IndexBuild, IndexEnter, IndexFind, outcomeOf, opens}
 use Rattle.promises.specs.Acceptance.{renews}
 use Rattle.promises.specs.Soundness.{OpenedSound, SoundKept}
 use Rattle.promises.specs.Lasting.{Grown, BookingsLast, AncestryLasts}
 use Rattle.promises.proofs.Taken.{open-taken, open-kept, book-taken, book-kept, poll-taken, poll-kept, write-words, read-taken, read-kept, build-words, enter-words}
 use Rattle.promises.proofs.Booked.{booked-ledger, booked-grown}
 use Rattle.promises.proofs.Polled.{polled-ledger, polled-grown}
-use Rattle.promises.proofs.Good.{file-ledger}
+use Rattle.promises.proofs.Forms.{made-ledger}
 use Rattle.promises.proofs.Grown.{grown-self, ancestry-grown, reaches-grown}
 
 -- u is a ledger that has grown from w
@@ -53,8 +54,8 @@ call-kept (Open s) w n l = kept-words (open-kept w s n) (kept-self w l)
 call-kept (Book name slot parents) w n l = kept-book w name slot parents (isTaken (bookCall w name slot parents .answer)) refl l
 call-kept (Poll name votes) w n l = kept-poll w name votes (isTaken (pollCall w name votes .answer)) refl l
 call-kept (Ask what name) w n l = kept-self w l
-call-kept (WriteFirst buffer) w n l = kept-words (write-words w buffer) (kept-self w l)
-call-kept (ReadFirst file) w n l = kept-words (read-kept w file n) (kept-self w l)
+call-kept (WriteFile form buffer) w n l = kept-words (write-words form w buffer) (kept-self w l)
+call-kept (ReadFile form file) w n l = kept-words (read-kept form w file n) (kept-self w l)
 call-kept (IndexBuild index) w n l = kept-words (build-words w index) (kept-self w l)
 call-kept (IndexEnter index) w n l = kept-words (enter-words w index) (kept-self w l)
 call-kept (IndexFind index name) w n l = kept-self w l
@@ -67,11 +68,11 @@ opened-sound (Open s) w n t = let o = open-taken w s t in subst Ledger (sym (o .
 opened-sound (Book name slot parents) w n t = absurd (true≢false (sym n))
 opened-sound (Poll name votes) w n t = absurd (true≢false (sym n))
 opened-sound (Ask what name) w n t = absurd (true≢false (sym n))
-opened-sound (WriteFirst buffer) w n t = absurd (true≢false (sym n))
+opened-sound (WriteFile form buffer) w n t = absurd (true≢false (sym n))
 opened-sound (IndexBuild index) w n t = absurd (true≢false (sym n))
 opened-sound (IndexEnter index) w n t = absurd (true≢false (sym n))
 opened-sound (IndexFind index name) w n t = absurd (true≢false (sym n))
-opened-sound (ReadFirst file) w n t = let o = read-taken w file t in subst Ledger (sym (o .2)) (file-ledger file (o .1))
+opened-sound (ReadFile form file) w n t = let o = read-taken form w file t in subst Ledger (sym (o .2)) (made-ledger form file (o .1))
 
 -- taken or refused
 open-sound : (w : List ℕ) (s : Setting) (taken : Bool) → isTaken (openCall w s .answer) ≡ taken → Ledger w → Ledger (openCall w s .words)
@@ -79,10 +80,11 @@ unfolding OpenedSound outcomeOf
 open-sound w s true t l = opened-sound (Open s) w refl t
 open-sound w s false t l = subst Ledger (sym (open-kept w s t)) l
 
-read-sound : (w file : List ℕ) (taken : Bool) → isTaken (readFirstCall w file .answer) ≡ taken → Ledger w → Ledger (readFirstCall w file .words)
+read-sound : (form : Form) (w file : List ℕ) (taken : Bool) → isTaken (readFileCall form w file .answer) ≡ taken → Ledger w
+    → Ledger (readFileCall form w file .words)
 unfolding OpenedSound outcomeOf
-read-sound w file true t l = opened-sound (ReadFirst file) w refl t
-read-sound w file false t l = subst Ledger (sym (read-kept w file t)) l
+read-sound form w file true t l = opened-sound (ReadFile form file) w refl t
+read-sound form w file false t l = subst Ledger (sym (read-kept form w file t)) l
 
 pub sound-kept : SoundKept
 unfolding SoundKept outcomeOf
@@ -90,8 +92,8 @@ sound-kept (Open s) w l = open-sound w s (isTaken (openCall w s .answer)) refl l
 sound-kept (Book name slot parents) w l = call-kept (Book name slot parents) w refl l .ledger
 sound-kept (Poll name votes) w l = call-kept (Poll name votes) w refl l .ledger
 sound-kept (Ask what name) w l = l
-sound-kept (WriteFirst buffer) w l = call-kept (WriteFirst buffer) w refl l .ledger
-sound-kept (ReadFirst file) w l = read-sound w file (isTaken (readFirstCall w file .answer)) refl l
+sound-kept (WriteFile form buffer) w l = call-kept (WriteFile form buffer) w refl l .ledger
+sound-kept (ReadFile form file) w l = read-sound form w file (isTaken (readFileCall form w file .answer)) refl l
 sound-kept (IndexBuild index) w l = call-kept (IndexBuild index) w refl l .ledger
 sound-kept (IndexEnter index) w l = call-kept (IndexEnter index) w refl l .ledger
 sound-kept (IndexFind index name) w l = l

@@ -17,11 +17,13 @@ pub mod Failed
 pub mod Polled
 pub mod Run
 pub mod Good
+pub mod Forms
 pub mod Kept
 pub mod Marks
 pub mod Editions
 pub mod Told
 pub mod DayFile
+pub mod SecondForm
 pub mod DayGrown
 pub mod Rebooked
 pub mod Repolled
@@ -31,5 +33,6 @@ pub mod DayGood
 pub mod Replayed
 pub mod ReplayRun
 pub mod ReadFile
+pub mod MoveFile
 pub mod NameIndex
 pub mod Refusals

@@ -24,7 +24,7 @@ use Rattle.rule_laws.proofs.Lookup.{found-below, found-name, found-is}
 use Rattle.rule_laws.proofs.Slots.{booking-lt}
 use Rattle.rule_laws.proofs.Tested.{reading-found}
 use Rattle.rule_laws.proofs.MarkedEarned.{mark-stays, marked→Earned, Earned→marked}
-use Rattle.promises.specs.Run.{Call, Open, Book, Poll, Ask, WriteFirst, ReadFirst, IndexBuild, IndexEnter, IndexFind, outcomeOf, step, run}
+use Rattle.promises.specs.Run.{Call, Open, Book, Poll, Ask, WriteFile, ReadFile, IndexBuild, IndexEnter, IndexFind, outcomeOf, step, run}
 use Rattle.promises.specs.Acceptance.{renews, AcceptedStays, NoneRenews, AcceptedCallStays, MarkEarned, EarnedMarked, OnlyPollsMark}
 use Rattle.promises.proofs.Taken.{Pollable, open-kept, book-taken, book-kept, poll-taken, poll-kept, write-words, read-kept, build-words, enter-words, reading-taken}
 use Rattle.promises.proofs.BookedRecords.{markOf-booked}
@@ -94,8 +94,8 @@ only-polls-mark (Open s) w p n i u = ap (λ v. markOf v i) (open-kept w s n)
 only-polls-mark (Book name slot parents) w p n i u = booking-marks w name slot parents (isTaken (bookCall w name slot parents .answer)) refl i u
 only-polls-mark (Poll name votes) w p n i u = absurd (true≢false p)
 only-polls-mark (Ask what name) w p n i u = refl
-only-polls-mark (WriteFirst buffer) w p n i u = ap (λ v. markOf v i) (write-words w buffer)
-only-polls-mark (ReadFirst file) w p n i u = ap (λ v. markOf v i) (read-kept w file n)
+only-polls-mark (WriteFile form buffer) w p n i u = ap (λ v. markOf v i) (write-words form w buffer)
+only-polls-mark (ReadFile form file) w p n i u = ap (λ v. markOf v i) (read-kept form w file n)
 only-polls-mark (IndexBuild index) w p n i u = ap (λ v. markOf v i) (build-words w index)
 only-polls-mark (IndexEnter index) w p n i u = ap (λ v. markOf v i) (enter-words w index)
 only-polls-mark (IndexFind index name) w p n i u = refl
@@ -113,8 +113,8 @@ mark-kept (Open s) w n l i u m = only-polls-mark (Open s) w refl n i (booking-lt
 mark-kept (Book name slot parents) w n l i u m = only-polls-mark (Book name slot parents) w refl n i (booking-lt w (l .sound) i u) ∙ m
 mark-kept (Poll name votes) w n l i u m = polling-stays w name votes (isTaken (pollCall w name votes .answer)) refl i u m
 mark-kept (Ask what name) w n l i u m = m
-mark-kept (WriteFirst buffer) w n l i u m = only-polls-mark (WriteFirst buffer) w refl n i (booking-lt w (l .sound) i u) ∙ m
-mark-kept (ReadFirst file) w n l i u m = only-polls-mark (ReadFirst file) w refl n i (booking-lt w (l .sound) i u) ∙ m
+mark-kept (WriteFile form buffer) w n l i u m = only-polls-mark (WriteFile form buffer) w refl n i (booking-lt w (l .sound) i u) ∙ m
+mark-kept (ReadFile form file) w n l i u m = only-polls-mark (ReadFile form file) w refl n i (booking-lt w (l .sound) i u) ∙ m
 mark-kept (IndexBuild index) w n l i u m = only-polls-mark (IndexBuild index) w refl n i (booking-lt w (l .sound) i u) ∙ m
 mark-kept (IndexEnter index) w n l i u m = only-polls-mark (IndexEnter index) w refl n i (booking-lt w (l .sound) i u) ∙ m
 mark-kept (IndexFind index name) w n l i u m = m

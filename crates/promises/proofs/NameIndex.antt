@@ -23,7 +23,7 @@ use Rattle.name_index.specs.Calls.{indexEnterCall, indexFindCall}
 use Rattle.name_index.proofs.Tested.{index-tested, enter-room, find-known}
 use Rattle.name_index.proofs.Probing.{found-plain, met-found, first-empty}
 use Rattle.name_index.proofs.Built.{built-whole, built-lookUp, built-same, built-more, built-free}
-use Rattle.promises.specs.Run.{Call, Open, Book, Poll, Ask, WriteFirst, ReadFirst, IndexBuild, IndexEnter, IndexFind, outcomeOf, step, run}
+use Rattle.promises.specs.Run.{Call, Open, Book, Poll, Ask, WriteFile, ReadFile, IndexBuild, IndexEnter, IndexFind, outcomeOf, step, run}
 use Rattle.promises.specs.Acceptance.{renews, NoneRenews}
 use Rattle.promises.specs.NameIndex.{
   BuiltFinds,
@@ -136,8 +136,8 @@ bookings-kept (Poll name votes) w n a = go (isTaken (pollCall w name votes .answ
     go true t = let o = poll-taken w name votes t in ap bookings (o .2) ∙ bookings-polled w (numberOf (lookUp w name)) votes (o .0) (o .1)
     go false t = ap bookings (poll-kept w name votes t)
 bookings-kept (Ask what name) w n a = refl
-bookings-kept (WriteFirst buffer) w n a = ap bookings (write-words w buffer)
-bookings-kept (ReadFirst file) w n a = ap bookings (read-kept w file n)
+bookings-kept (WriteFile form buffer) w n a = ap bookings (write-words form w buffer)
+bookings-kept (ReadFile form file) w n a = ap bookings (read-kept form w file n)
 bookings-kept (IndexBuild index) w n a = ap bookings (build-words w index)
 bookings-kept (IndexEnter index) w n a = ap bookings (enter-words w index)
 bookings-kept (IndexFind index name) w n a = refl
@@ -149,8 +149,8 @@ entered-one (Open s) w a = absurd (true≢false (sym a))
 entered-one (Book name slot parents) w a = ap (λ h. h .lent) (entered-is-built w name slot parents (taken-zero (bookCall w name slot parents .answer) a))
 entered-one (Poll name votes) w a = absurd (true≢false (sym a))
 entered-one (Ask what name) w a = absurd (true≢false (sym a))
-entered-one (WriteFirst buffer) w a = absurd (true≢false (sym a))
-entered-one (ReadFirst file) w a = absurd (true≢false (sym a))
+entered-one (WriteFile form buffer) w a = absurd (true≢false (sym a))
+entered-one (ReadFile form file) w a = absurd (true≢false (sym a))
 entered-one (IndexBuild index) w a = absurd (true≢false (sym a))
 entered-one (IndexEnter index) w a = absurd (true≢false (sym a))
 entered-one (IndexFind index name) w a = absurd (true≢false (sym a))

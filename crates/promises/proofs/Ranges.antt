@@ -20,14 +20,22 @@ use Rattle.rules.specs.Sound.{Ledger}
 use Rattle.rule_laws.proofs.Calls.{refusalNumber-within, number-refused, value-refused}
 use Rattle.rule_laws.proofs.Lookup.{found-below}
 use Rattle.rule_laws.proofs.Readings.{query-le, accepted-le, confidence-le, lead-le, size-least, size-most}
-use Rattle.day_file.specs.Bytes.{dayFile}
+use Rattle.terms.specs.declared.form.Form.{Form}
+use Rattle.terms.specs.declared.form.Form.the-variants.{First, Second}
+use Rattle.day_file.specs.Bytes.{dayFile, fileOf}
+use Rattle.day_file.specs.Calls.{wordsIn}
 use Rattle.day_file.proofs.Lengths.{editionLength-most, dayFile-least, dayFile-most}
 use Rattle.name_index.proofs.Probing.{found-of}
 use Rattle.promises.specs.Run.{outcomeOf}
 use Rattle.promises.specs.Damage.{NamesDamage}
+use Rattle.promises.specs.DayFile.{leastFile, mostFile, SecondLength}
+use Rattle.promises.specs.MoveFile.{otherForm}
 use Rattle.promises.specs.Ranges.{Between, Ranges}
 use Rattle.promises.proofs.Damage.{damage-named}
-use Rattle.promises.proofs.Taken.{reading-taken, write-taken, read-value, build-taken, enter-taken, find-taken}
+use Rattle.promises.proofs.Taken.{reading-taken, write-taken, read-value, move-taken, move-number, build-taken, enter-taken, find-taken}
+use Rattle.promises.proofs.SecondForm.{second-length}
+use Rattle.promises.proofs.Forms.{made-ledger}
+use Rattle.promises.proofs.MoveFile.{moved-is}
 
 number-le : (a : Answer) → number a ≤ 27
 number-le (Taken v) = omega arith
@@ -73,6 +81,17 @@ value-within : (most : ℕ) (f : ℕ → ℤ) (w : List ℕ) (name : ℕ) → ((
     → number (readingCall f w name) ≡ 0 → natAbs (value (readingCall f w name)) ≤ most
 value-within most f w name bound = value-taken (λ z. natAbs z ≤ most) f w name bound
 
+-- ---- a file
+
+file-between : (form : Form) (w : List ℕ) → Ledger w → Between (leastFile form) (mostFile form) (pos (length (fileOf form w)))
+unfolding SecondLength
+file-between First w ledger =
+    between _ _ (length (dayFile w)) (omega (arith, dayFile-least w ledger)) (omega (arith, dayFile-most w ledger, editionLength-most (settingIn w .edition)))
+file-between Second w ledger =
+    let more = second-length w ledger in
+    between _ _ (length (fileOf Second w)) (omega (arith, more, dayFile-least w ledger))
+    (omega (arith, more, dayFile-most w ledger, editionLength-most (settingIn w .edition)))
+
 -- ---- the ranges
 
 pub ranges : Ranges
@@ -88,10 +107,14 @@ ranges = record {
       (λ i ledger h.
       between _ _ (sizeOf w i) (omega (arith, size-least w (ledger .sound) i h)) (omega (arith, size-most w (ledger .sound) i, ledger .sound .bookingsMost)))
       taken;
-  writing = λ w buffer taken.
-      let file = write-taken w buffer taken in
-      rw (file .1) (between _ _ (length (dayFile w)) (omega (arith, dayFile-least w (file .0))) (omega (arith, dayFile-most w (file .0), editionLength-most (settingIn w .edition))));
+  writing = λ form w buffer taken.
+      let file = write-taken form w buffer taken in
+      rw (file .1) (file-between form w (file .0));
   readingFile = read-value;
+  movingNumbers = move-number;
+  moving = λ form file out taken.
+      let o = move-taken form file out taken in
+      rw (ap (λ x. value (x .answer)) (o .3), moved-is form file (o .0)) (file-between (otherForm form) (wordsIn form file) (made-ledger form file (o .0)));
   building = λ w index taken. ap (λ o. value (o .answer)) (build-taken w index taken .2);
   entering = λ w index taken. ap (λ o. value (o .answer)) (enter-taken w index taken .3);
   finding = λ w index name taken.

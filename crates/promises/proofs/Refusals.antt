@@ -32,10 +32,10 @@ use Rattle.rules.specs.Book.{lookUp, isFound, isAbsent, numberOf, parentFound, 
 use Rattle.rules.specs.Poll.{polled}
 use Rattle.rules.specs.Readings.{readingOf}
 use Rattle.rules.specs.Listing.{listCall}
-use Rattle.day_file.specs.Bytes.{dayFile}
-use Rattle.day_file.specs.Decode.{decode}
-use Rattle.day_file.specs.Replay.{replay, goodFile}
-use Rattle.day_file.specs.Calls.{laid, writeFirstAnswer, writeFirstCall, readFirstAnswer, readFirstCall}
+use Rattle.terms.specs.declared.form.Form.{Form}
+use Rattle.day_file.specs.Bytes.{fileOf}
+use Rattle.day_file.specs.Replay.{replay}
+use Rattle.day_file.specs.Calls.{laid, writeFileAnswer, writeFileCall, goodIn, wordsIn, readFileAnswer, readFileCall, movedIn, hasOtherMarks, moveFileAnswer, moveFileCall}
 use Rattle.rules.specs.Calls.{
   openAnswer,
   openCall,
@@ -62,11 +62,13 @@ use Rattle.rule_laws.proofs.RowRules.{headerGood→Rules, Rules→headerGood, r
 use Rattle.rule_laws.proofs.Sound.{tests→Sound}
 use Rattle.rule_laws.proofs.Tested.{damaged-in-order, tested-first-length, beside-in-order}
 use Rattle.rule_laws.proofs.Lookup.{found-below, found-name, absent-name, found-is}
-use Rattle.promises.specs.Run.{Open, Book, Poll, Ask, WriteFirst, ReadFirst, IndexBuild, IndexEnter, IndexFind, outcomeOf, lentAfter}
+use Rattle.promises.specs.Run.{Open, Book, Poll, Ask, WriteFile, ReadFile, IndexBuild, IndexEnter, IndexFind, outcomeOf, lentAfter}
 use Rattle.promises.specs.Damage.{Broken}
 use Rattle.promises.proofs.Taken.{write-words, write-refused, read-refused, build-words, build-refused, enter-words, enter-refused}
-use Rattle.promises.specs.ReadFile.{Writable, GoodIsWritten}
+use Rattle.promises.specs.ReadFile.{GoodIn, GoodIsWritten}
 use Rattle.promises.proofs.ReadFile.{good-is-written}
+use Rattle.promises.specs.MoveFile.{OtherMarks}
+use Rattle.promises.proofs.MoveFile.{other-marks, marks-other}
 use Rattle.promises.specs.Refusals.{
   RefusedKeeps,
   Booked,
@@ -84,6 +86,7 @@ use Rattle.promises.specs.Refusals.{
   ReadingListed,
   WriteFileListed,
   ReadFileListed,
+  MoveFileListed,
   BuildListed,
   EnterListed,
   FindListed,
@@ -99,8 +102,8 @@ refused-keeps (Open s) w h = let kept = open-refused w s h in (kept .words, kept
 refused-keeps (Book name slot parents) w h = let kept = book-refused w name slot parents h in (kept .words, kept .value, refl)
 refused-keeps (Poll name votes) w h = let kept = poll-refused w name votes h in (kept .words, kept .value, refl)
 refused-keeps (Ask what name) w h = (refl, value-refused (readCall what w name) h, refl)
-refused-keeps (WriteFirst buffer) w h = (write-words w buffer, value-refused (writeFirstCall w buffer .answer) h, write-refused w buffer h)
-refused-keeps (ReadFirst file) w h = let kept = read-refused w file h in (kept .words, kept .value, refl)
+refused-keeps (WriteFile form buffer) w h = (write-words form w buffer, value-refused (writeFileCall form w buffer .answer) h, write-refused form w buffer h)
+refused-keeps (ReadFile form file) w h = let kept = read-refused form w file h in (kept .words, kept .value, refl)
 refused-keeps (IndexBuild index) w h = (build-words w index, value-refused (indexBuildCall w index .answer) h, build-refused w index h)
 refused-keeps (IndexEnter index) w h = (enter-words w index, value-refused (indexEnterCall w index .answer) h, enter-refused w index h)
 refused-keeps (IndexFind index name) w h = (refl, value-refused (indexFindCall w index name) h, refl)
@@ -314,25 +317,38 @@ reading-listed f w name =
     asked-first (lookUp w name) _ e (found-decides w name) (λ i found e.
     e))
 
-write-listed : (w buffer : List ℕ) → WriteFileListed w buffer (number (writeFirstCall w buffer .answer))
-unfolding writeFirstCall
-write-listed w buffer =
-    tested-first w _ (ap number (handsOver-answer (writeFirstAnswer testOf w buffer) w buffer (laid (dayFile w) buffer))) (λ sound e.
-    refused-first Refusal.ShortBuffer _ _ e (less-decides (length buffer) (length (dayFile w))) (λ t e.
+write-listed : (form : Form) (w buffer : List ℕ) → WriteFileListed form w buffer (number (writeFileCall form w buffer .answer))
+unfolding writeFileCall
+write-listed form w buffer =
+    tested-first w _ (ap number (handsOver-answer (writeFileAnswer testOf form w buffer) w buffer (laid (fileOf form w) buffer))) (λ sound e.
+    refused-first Refusal.ShortBuffer _ _ e (less-decides (length buffer) (length (fileOf form w))) (λ t e.
     e))
 
 -- 17
-unwritten-decides : (file : List ℕ) → Decides (not (goodFile file)) (Writable file → ⊥)
+unwritten-decides : (form : Form) (file : List ℕ) → Decides (not (goodIn form file)) (GoodIn form file → ⊥)
 unfolding GoodIsWritten
-unwritten-decides file = not-decides (goodFile file) (decides-by (good-is-written file .0) (good-is-written file .1))
+unwritten-decides form file = not-decides (goodIn form file) (decides-by (good-is-written form file .0) (good-is-written form file .1))
 
-read-listed : (w file : List ℕ) → ReadFileListed w file (number (readFirstCall w file .answer))
-unfolding readFirstCall
-read-listed w file =
-    refused-first Refusal.WrongLength _ _ (ap number (leaves-answer (readFirstAnswer goodFile w file) w (replay (decode file) .words)))
+read-listed : (form : Form) (w file : List ℕ) → ReadFileListed form w file (number (readFileCall form w file .answer))
+unfolding readFileCall
+read-listed form w file =
+    refused-first Refusal.WrongLength _ _ (ap number (leaves-answer (readFileAnswer (goodIn form) w file) w (wordsIn form file)))
     (differs-decides (length w) size) (λ t e.
-    refused-first Refusal.BadFile _ _ e (unwritten-decides file) (λ t e.
+    refused-first Refusal.BadFile _ _ e (unwritten-decides form file) (λ t e.
     e))
+
+-- 19
+other-decides : (form : Form) (file : List ℕ) → goodIn form file ≡ true → Decides (hasOtherMarks form file) (OtherMarks form file)
+other-decides form file good = record { passes = other-marks form file good; fails = marks-other form file good }
+
+move-listed : (form : Form) (file out : List ℕ) → MoveFileListed form file out (number (moveFileCall form file out .answer))
+unfolding moveFileCall
+move-listed form file out =
+    refused-first Refusal.BadFile _ _ (ap number (leaves-answer (moveFileAnswer goodIn replay form file out) out (laid (movedIn form file) out)))
+    (unwritten-decides form file) (λ good e.
+    refused-first Refusal.OtherMarks _ _ e (other-decides form file (not-false _ good)) (λ t e.
+    refused-first Refusal.ShortBuffer _ _ e (less-decides (length out) (length (movedIn form file))) (λ t e.
+    e)))
 
 build-listed : (w index : List ℕ) → BuildListed w index (number (indexBuildCall w index .answer))
 unfolding indexBuildCall
@@ -379,6 +395,7 @@ refused-listed =
       reading = λ what w. reading-listed (readingOf what w) w;
       writing = write-listed;
       readingFile = read-listed;
+      moving = move-listed;
       building = build-listed;
       entering = enter-listed;
       finding = find-listed;

@@ -11,10 +11,12 @@ use lib.ListN.{replicate}
 use Rattle.loops.specs.Total.{bit, total, count}
 use Rattle.loops.proofs.Total.{total-same, total-plus, total-more, total-zeros}
 use Rattle.terms.specs.declared.setting.Setting.{Setting}
+use Rattle.terms.specs.declared.form.Form.{Form}
+use Rattle.terms.specs.declared.form.Form.the-variants.{First, Second}
 use Rattle.terms.specs.declared.answer.Answer.{Answer}
 use Rattle.terms.specs.declared.answer.Answer.the-variants.{Taken, Refused}
 use Rattle.terms.specs.Answers.{Outcome, isTaken}
-use Rattle.rules.specs.Layout.{size, bookings, polls, confidenceOf, pollsField, confidenceField}
+use Rattle.rules.specs.Layout.{size, bookings, polls, slotOf, confidenceOf, preferredIn, pollsField, confidenceField, preferredField}
 use Rattle.rules.specs.Ancestry.{ancestry, isMember}
 use Rattle.rules.specs.Readings.{sizeOf}
 use Rattle.rules.specs.Open.{opened}
@@ -23,9 +25,10 @@ use Rattle.rules.specs.Poll.{polled, isSuccess}
 use Rattle.rules.specs.Calls.{testOf, openCall, bookCall, pollCall}
 use Rattle.rules.specs.Sound.{Ledger}
 use Rattle.day_file.specs.Day.{DayBooking, DayPoll, Day}
-use Rattle.day_file.specs.Decode.{decode}
+use Rattle.day_file.specs.Decode.{decode, decodeMarked}
 use Rattle.day_file.specs.Replay.{namesOf, votesFor, following, inOrder, rebookBy, repollBy, replay}
-use Rattle.day_file.specs.Calls.{readFirstCall}
+use Rattle.day_file.specs.Calls.{goodIn, wordsIn, readFileCall}
+use Rattle.rule_laws.proofs.ButMarks.{ButMarks, many-same, slot-same}
 use Rattle.rule_laws.proofs.Opened.{opened-ledger, header-opened, field-opened, bookings-opened}
 use Rattle.rule_laws.proofs.Ancestry.{members→Reaches, Reaches→members}
 use Rattle.promises.specs.Run.{
@@ -34,8 +37,8 @@ use Rattle.promises.specs.Run.{
   Book,
   Poll,
   Ask,
-  WriteFirst,
-  ReadFirst,
+  WriteFile,
+  ReadFile,
   IndexBuild,
   IndexEnter,
   IndexFind,
@@ -56,7 +59,7 @@ use Rattle.promises.specs.Soundness.{RunSound}
 use Rattle.promises.specs.Confidence.{Counted, none, counts, passes, sizes, ConfidenceIsCounted, TotalIsSummed, PreferredIsMost}
 use Rattle.promises.specs.Lasting.{Grown, PollsAreCounted}
 use Rattle.promises.proofs.Taken.{Bookable, Pollable, Led, open-taken, open-kept, book-taken, book-kept, poll-taken, poll-kept, write-words, read-taken, read-kept, build-words, enter-words}
-use Rattle.promises.proofs.Good.{replay-taken}
+use Rattle.promises.proofs.Forms.{but-grown, replayed-but, second-right, good-taken, made-ledger}
 use Rattle.promises.proofs.Rebooked.{rebook-taken}
 use Rattle.promises.proofs.Repolled.{votes-decide, polled-as, repoll-taken}
 use Rattle.promises.proofs.BookedWords.{bookings-booked, polls-booked, confidenceOf-booked-same}
@@ -288,8 +291,36 @@ replay-right d taken =
     (d .polls) booked (λ t. record { history = fresh; right = booked-right t; whole = refl }) taken in
     subst (Right (replay d .words)) (ends .whole) (ends .right)
 
-pub reading-right : (w file : List ℕ) → isTaken (readFirstCall w file .answer) ≡ true → Right (readFirstCall w file .words) (withPolls (decode file .polls) fresh)
-reading-right w file t = let o = read-taken w file t in right-words (o .2) (replay-right (decode file) (replay-taken file (o .1)))
+-- with other marks it is right still: nobody's confidence, ancestry, preference or poll is in them
+but-right : (w v : List ℕ) (h : History) → ButMarks w v → Ledger v → Right w h → Right v h
+but-right w v h but ledger right =
+    let grown : Grown w v = but-grown w v but in
+    let many : bookings v ≡ bookings w = many-same w v but in
+    let confidence : (j : ℕ) → confidenceOf v j ≡ confidenceOf w j = λ j. but .same j confidenceField (omega arith) (omega arith) in
+    record {
+      ledger = ledger;
+      counted = λ j l. rw (confidence j) (counted-grown w v (right .ledger) grown (right .below) (right .counted j (omega (arith, many))));
+      summed =
+          ap (total (confidenceOf v)) many ∙ total-same (confidenceOf v) (confidenceOf w) (bookings w) (λ j l. confidence j)
+          ∙ right .summed ∙ sym (sizes-grown w v (right .ledger) grown (right .below));
+      led = λ i l.
+          let slot : preferredIn v (slotOf v i) ≡ preferredIn w (slotOf w i) =
+          ap (preferredIn v) (slot-same w v but i) ∙ but .entries (slotOf w i) preferredField in
+          omega (arith, confidence i, right .led i (omega (arith, many)), ap (confidenceOf v) slot, confidence (preferredIn w (slotOf w i)));
+      polled = but .head pollsField (omega arith) ∙ right .polled;
+      below = within-more (grown .more) (right .below);
+    }
+
+made-words-right : (form : Form) (file : List ℕ) → goodIn form file ≡ true → Right (wordsIn form file) (withPolls (decode file .polls) fresh)
+made-words-right First file good = replay-right (decode file) (good-taken First file good)
+made-words-right Second file good =
+    but-right (replay (decode file) .words) (wordsIn Second file) (withPolls (decode file .polls) fresh)
+    (replayed-but (decode file) (good-taken Second file good) (decodeMarked file .marks) (second-right file good)) (made-ledger Second file good)
+    (replay-right (decode file) (good-taken Second file good))
+
+pub reading-right : (form : Form) (w file : List ℕ) → isTaken (readFileCall form w file .answer) ≡ true
+    → Right (readFileCall form w file .words) (withPolls (decode file .polls) fresh)
+reading-right form w file t = let o = read-taken form w file t in right-words (o .2) (made-words-right form file (o .1))
 
 -- ---- every call
 
@@ -303,13 +334,13 @@ step-right (Poll name votes) w h right =
     (λ t. poll-right w h name votes t right)
     (λ f. right-words (poll-kept w name votes f) right)
 step-right (Ask what name) w h right = right
-step-right (WriteFirst buffer) w h right = right-words (write-words w buffer) right
+step-right (WriteFile form buffer) w h right = right-words (write-words form w buffer) right
 step-right (IndexBuild index) w h right = right-words (build-words w index) right
 step-right (IndexEnter index) w h right = right-words (enter-words w index) right
 step-right (IndexFind index name) w h right = right
-step-right (ReadFirst file) w h right =
-    by-taken Right (readFirstCall w file .words) (withPolls (decode file .polls) fresh) h (isTaken (readFirstCall w file .answer)) (reading-right w file)
-    (λ f. right-words (read-kept w file f) right)
+step-right (ReadFile form file) w h right =
+    by-taken Right (readFileCall form w file .words) (withPolls (decode file .polls) fresh) h (isTaken (readFileCall form w file .answer)) (reading-right form w file)
+    (λ f. right-words (read-kept form w file f) right)
 
 -- a taken opening or reading makes it right, whatever the words and the history were
 pub made-right : (c : Call) (w : List ℕ) (h : History) → opens c ≡ true → isTaken (outcomeOf c w .answer) ≡ true → Right (outcomeOf c w .words) (historyAfter c w h)
@@ -318,11 +349,11 @@ made-right (Open s) w h m t = rw t (opening-right w s t)
 made-right (Book name slot parents) w h m t = absurd (true≢false (sym m))
 made-right (Poll name votes) w h m t = absurd (true≢false (sym m))
 made-right (Ask what name) w h m t = absurd (true≢false (sym m))
-made-right (WriteFirst buffer) w h m t = absurd (true≢false (sym m))
+made-right (WriteFile form buffer) w h m t = absurd (true≢false (sym m))
 made-right (IndexBuild index) w h m t = absurd (true≢false (sym m))
 made-right (IndexEnter index) w h m t = absurd (true≢false (sym m))
 made-right (IndexFind index name) w h m t = absurd (true≢false (sym m))
-made-right (ReadFirst file) w h m t = rw t (reading-right w file t)
+made-right (ReadFile form file) w h m t = rw t (reading-right form w file t)
 
 run-right : (calls : List Call) (t : Station) → Right (t .words) (t .history) → Right (run calls t .words) (run calls t .history)
 unfolding run

@@ -9,7 +9,7 @@ use native.Mathlib.Omega.{arith}
 use lib.IntN.{ℤ, pos}
 use lib.ListN.{length, getD}
 use lib.Dec.{eqb, leb, ltb}
-use borrow.Author.Tests.{eqb-true, eq-eqb, eqb-false, leb-false, ltb-false, not-false}
+use borrow.Author.Tests.{eqb-true, eq-eqb, eqb-false, leb-false, ltb-false, le-ltb, not-false}
 use Rattle.loops.proofs.Bools.{neither}
 use Rattle.loops.specs.Search.{any}
 use Rattle.loops.proofs.Search.{none→}
@@ -17,6 +17,7 @@ use Rattle.terms.specs.declared.setting.Setting.{Setting}
 use Rattle.terms.specs.declared.answer.Found.{Found}
 use Rattle.terms.specs.declared.answer.Found.the-variants.{At, Absent}
 use Rattle.terms.specs.declared.answer.Refusal.{Refusal}
+use Rattle.terms.specs.declared.form.Form.{Form}
 use Rattle.terms.specs.declared.answer.Tested.{Tested}
 use Rattle.terms.specs.declared.answer.Tested.the-variants.{Fine, Stop}
 use Rattle.terms.specs.declared.answer.Answer.{Answer}
@@ -29,10 +30,9 @@ use Rattle.rules.specs.Open.{opened}
 use Rattle.rules.specs.Book.{lookUp, numberOf, hasUnknown, hasTwice, booked}
 use Rattle.rules.specs.Poll.{polled}
 use Rattle.rules.specs.Calls.{openAnswer, openCall, damageOf, testOf, besideOf, unlessStopped, tested, bookAnswer, bookCall, askedOf, pollAnswer, pollCall, readingCall}
-use Rattle.day_file.specs.Bytes.{dayFile}
-use Rattle.day_file.specs.Decode.{decode}
-use Rattle.day_file.specs.Replay.{replay, goodFile}
-use Rattle.day_file.specs.Calls.{laid, writeFirstAnswer, writeFirstCall, readFirstAnswer, readFirstCall}
+use Rattle.day_file.specs.Bytes.{fileOf}
+use Rattle.day_file.specs.Replay.{replay}
+use Rattle.day_file.specs.Calls.{laid, writeFileAnswer, writeFileCall, goodIn, wordsIn, readFileAnswer, readFileCall, movedIn, hasOtherMarks, moveFileAnswer, moveFileCall}
 use Rattle.name_index.specs.Index.{cells, lookUpIn, isFull, newest, withNumber, built}
 use Rattle.name_index.specs.Calls.{indexTested, enterAnswer, indexBuildCall, indexEnterCall, indexFindCall}
 use Rattle.name_index.proofs.Tested.{besideIndex, fine-index}
@@ -84,21 +84,21 @@ book-kept w name slot parents e = book-refused w name slot parents (untaken (boo
 pub poll-kept : (w : List ℕ) (name : ℕ) (votes : List ℕ) → isTaken (pollCall w name votes .answer) ≡ false → pollCall w name votes .words ≡ w
 poll-kept w name votes e = poll-refused w name votes (untaken (pollCall w name votes .answer) e) .words
 
-pub read-refused : (w file : List ℕ) → number (readFirstCall w file .answer) ≢ 0 → Unmoved w (readFirstCall w file)
-unfolding readFirstCall
-read-refused w file = leaves-refused (readFirstAnswer goodFile w file) w _
+pub read-refused : (form : Form) (w file : List ℕ) → number (readFileCall form w file .answer) ≢ 0 → Unmoved w (readFileCall form w file)
+unfolding readFileCall
+read-refused form w file = leaves-refused (readFileAnswer (goodIn form) w file) w _
 
-pub read-kept : (w file : List ℕ) → isTaken (readFirstCall w file .answer) ≡ false → readFirstCall w file .words ≡ w
-read-kept w file e = read-refused w file (untaken (readFirstCall w file .answer) e) .words
+pub read-kept : (form : Form) (w file : List ℕ) → isTaken (readFileCall form w file .answer) ≡ false → readFileCall form w file .words ≡ w
+read-kept form w file e = read-refused form w file (untaken (readFileCall form w file .answer) e) .words
 
-pub write-refused : (w buffer : List ℕ) → number (writeFirstCall w buffer .answer) ≢ 0 → writeFirstCall w buffer .lent ≡ buffer
-unfolding writeFirstCall
-write-refused w buffer = handsOver-refused (writeFirstAnswer testOf w buffer) w buffer _
+pub write-refused : (form : Form) (w buffer : List ℕ) → number (writeFileCall form w buffer .answer) ≢ 0 → writeFileCall form w buffer .lent ≡ buffer
+unfolding writeFileCall
+write-refused form w buffer = handsOver-refused (writeFileAnswer testOf form w buffer) w buffer _
 
 -- writing changes no word, taken or refused
-pub write-words : (w buffer : List ℕ) → writeFirstCall w buffer .words ≡ w
-unfolding writeFirstCall
-write-words w buffer = handsOver-words (writeFirstAnswer testOf w buffer) w buffer _
+pub write-words : (form : Form) (w buffer : List ℕ) → writeFileCall form w buffer .words ≡ w
+unfolding writeFileCall
+write-words form w buffer = handsOver-words (writeFileAnswer testOf form w buffer) w buffer _
 
 -- nor do the calls about an index
 pub build-refused : (w index : List ℕ) → number (indexBuildCall w index .answer) ≢ 0 → indexBuildCall w index .lent ≡ index
@@ -213,44 +213,102 @@ reading-taken f w name v e =
     let found = asked-passed (lookUp w name) _ (ledger .1) in
     (ledger .0, found .0, ap value (found .1))
 
-pub write-taken : (w buffer : List ℕ) → number (writeFirstCall w buffer .answer) ≡ 0
-    → Ledger w × (value (writeFirstCall w buffer .answer) ≡ pos (length (dayFile w)))
-unfolding writeFirstCall
-write-taken w buffer =
-    rw (handsOver-answer (writeFirstAnswer testOf w buffer) w buffer (laid (dayFile w) buffer)) (go (writeFirstAnswer testOf w buffer) refl)
+pub write-taken : (form : Form) (w buffer : List ℕ) → number (writeFileCall form w buffer .answer) ≡ 0
+    → Ledger w × (value (writeFileCall form w buffer .answer) ≡ pos (length (fileOf form w)))
+unfolding writeFileCall
+write-taken form w buffer =
+    rw (handsOver-answer (writeFileAnswer testOf form w buffer) w buffer (laid (fileOf form w) buffer)) (go (writeFileAnswer testOf form w buffer) refl)
   where
-    go : (a : Answer) → writeFirstAnswer testOf w buffer ≡ a → number a ≡ 0 → Ledger w × (value a ≡ pos (length (dayFile w)))
+    go : (a : Answer) → writeFileAnswer testOf form w buffer ≡ a → number a ≡ 0 → Ledger w × (value a ≡ pos (length (fileOf form w)))
     go (Taken v) e z =
         let ledger = tested-passed w _ e in
-        let room = passed (ltb (length buffer) (length (dayFile w))) _ _ (ledger .1) in
+        let room = passed (ltb (length buffer) (length (fileOf form w))) _ _ (ledger .1) in
         (ledger .0, ap value (sym (room .1)))
     go (Refused r) e z = absurd (number-refused r z)
 
-pub read-taken : (w file : List ℕ) → isTaken (readFirstCall w file .answer) ≡ true
-    → (length w ≡ size) × (goodFile file ≡ true) × (readFirstCall w file .words ≡ replay (decode file) .words)
-unfolding readFirstCall
-read-taken w file e =
-    let taken = leaves-taken (readFirstAnswer goodFile w file) w (replay (decode file) .words) e in
+pub read-taken : (form : Form) (w file : List ℕ) → isTaken (readFileCall form w file .answer) ≡ true
+    → (length w ≡ size) × (goodIn form file ≡ true) × (readFileCall form w file .words ≡ wordsIn form file)
+unfolding readFileCall
+read-taken form w file e =
+    let taken = leaves-taken (readFileAnswer (goodIn form) w file) w (wordsIn form file) e in
     let long = passed _ _ _ (taken .1) in
     let good = passed _ _ _ (long .1) in
     (eqb-true _ _ (not-false _ (long .0)), not-false _ (good .0), taken .2)
 
 -- a good file is read into any words of the right length, whatever they are
-pub read-outcome : (w file : List ℕ) → length w ≡ size → goodFile file ≡ true → readFirstCall w file ≡ outcome done (replay (decode file) .words)
-unfolding readFirstCall
-read-outcome w file whole good = rw (eq-eqb (length w) size whole, good)
+pub read-outcome : (form : Form) (w file : List ℕ) → length w ≡ size → goodIn form file ≡ true → readFileCall form w file ≡ outcome done (wordsIn form file)
+unfolding readFileCall
+read-outcome form w file whole good = rw (eq-eqb (length w) size whole, good)
 
-pub read-given : (w file : List ℕ) → length w ≡ size → goodFile file ≡ true → isTaken (readFirstCall w file .answer) ≡ true
-read-given w file whole good = ap (λ o. isTaken (o .answer)) (read-outcome w file whole good)
+pub read-given : (form : Form) (w file : List ℕ) → length w ≡ size → goodIn form file ≡ true → isTaken (readFileCall form w file .answer) ≡ true
+read-given form w file whole good = ap (λ o. isTaken (o .answer)) (read-outcome form w file whole good)
 
-pub read-value : (w file : List ℕ) → number (readFirstCall w file .answer) ≡ 0 → value (readFirstCall w file .answer) ≡ pos 0
-unfolding readFirstCall
-read-value w file = rw (leaves-answer (readFirstAnswer goodFile w file) w (replay (decode file) .words)) (go (not (eqb (length w) size)) (not (goodFile file)))
+pub read-value : (form : Form) (w file : List ℕ) → number (readFileCall form w file .answer) ≡ 0 → value (readFileCall form w file .answer) ≡ pos 0
+unfolding readFileCall
+read-value form w file = rw (leaves-answer (readFileAnswer (goodIn form) w file) w (wordsIn form file)) (go (not (eqb (length w) size)) (not (goodIn form file)))
   where
     go : (long bad : Bool) → let a = cond long (Refused Refusal.WrongLength) (cond bad (Refused Refusal.BadFile) done) in number a ≡ 0 → value a ≡ pos 0
     go true bad z = refl
     go false true z = refl
     go false false z = refl
+
+-- ---- a move of a file, taken and refused
+
+pub move-taken : (form : Form) (file out : List ℕ) → number (moveFileCall form file out .answer) ≡ 0
+    → (goodIn form file ≡ true) × (hasOtherMarks form file ≡ false) × (length (movedIn form file) ≤ length out)
+    × (moveFileCall form file out ≡ outcome (Taken (pos (length (movedIn form file)))) (laid (movedIn form file) out))
+unfolding moveFileCall
+move-taken form file out = go (not (goodIn form file)) refl (hasOtherMarks form file) refl (ltb (length out) (length (movedIn form file))) refl
+  where
+    answer : Bool → Bool → Bool → Answer
+    answer bad other short =
+        cond bad (Refused Refusal.BadFile) (cond other (Refused Refusal.OtherMarks) (cond short (Refused Refusal.ShortBuffer) (Taken (pos (length (movedIn form file))))))
+
+    go : (bad : Bool) → not (goodIn form file) ≡ bad → (other : Bool) → hasOtherMarks form file ≡ other
+        → (short : Bool) → ltb (length out) (length (movedIn form file)) ≡ short → number (leaves (answer bad other short) out (laid (movedIn form file) out) .answer) ≡ 0
+        → (goodIn form file ≡ true) × (hasOtherMarks form file ≡ false) × (length (movedIn form file) ≤ length out)
+        × (leaves (answer bad other short) out (laid (movedIn form file) out) ≡ outcome (Taken (pos (length (movedIn form file)))) (laid (movedIn form file) out))
+    go true b other o short s z = absurd (number-refused Refusal.BadFile z)
+    go false b true o short s z = absurd (number-refused Refusal.OtherMarks z)
+    go false b false o true s z = absurd (number-refused Refusal.ShortBuffer z)
+    go false b false o false s z = (not-false _ b, o, ltb-false (length out) (length (movedIn form file)) s, refl)
+
+pub move-given : (form : Form) (file out : List ℕ) → goodIn form file ≡ true → hasOtherMarks form file ≡ false → length (movedIn form file) ≤ length out
+    → moveFileCall form file out ≡ outcome (Taken (pos (length (movedIn form file)))) (laid (movedIn form file) out)
+unfolding moveFileCall
+move-given form file out good kept room = rw (good, kept, le-ltb (length out) (length (movedIn form file)) room)
+
+pub move-number : (form : Form) (file out : List ℕ) → number (moveFileCall form file out .answer) ≤ 19
+unfolding moveFileCall
+move-number form file out =
+    rw (leaves-answer (moveFileAnswer goodIn replay form file out) out (laid (movedIn form file) out))
+    (go (not (goodIn form file)) (hasOtherMarks form file) (ltb (length out) (length (movedIn form file))))
+  where
+    go : (bad other short : Bool)
+        → number (cond bad (Refused Refusal.BadFile) (cond other (Refused Refusal.OtherMarks) (cond short (Refused Refusal.ShortBuffer) (Taken (pos (length (movedIn form file)))))))
+        ≤ 19
+    go true other short = omega arith
+    go false true short = omega arith
+    go false false true = omega arith
+    go false false false = omega arith
+
+pub move-valueless : (form : Form) (file out : List ℕ) → number (moveFileCall form file out .answer) ≢ 0 → value (moveFileCall form file out .answer) ≡ pos 0
+unfolding moveFileCall
+move-valueless form file out =
+    rw (leaves-answer (moveFileAnswer goodIn replay form file out) out (laid (movedIn form file) out))
+    (go (not (goodIn form file)) (hasOtherMarks form file) (ltb (length out) (length (movedIn form file))))
+  where
+    go : (bad other short : Bool)
+        → let a = cond bad (Refused Refusal.BadFile) (cond other (Refused Refusal.OtherMarks) (cond short (Refused Refusal.ShortBuffer) (Taken (pos (length (movedIn form file)))))) in
+        number a ≢ 0 → value a ≡ pos 0
+    go true other short h = refl
+    go false true short h = refl
+    go false false true h = refl
+    go false false false h = absurd (h refl)
+
+pub move-refused : (form : Form) (file out : List ℕ) → number (moveFileCall form file out .answer) ≢ 0 → Unmoved out (moveFileCall form file out)
+unfolding moveFileCall
+move-refused form file out = leaves-refused (moveFileAnswer goodIn replay form file out) out _
 
 -- ---- the calls about an index, taken
 

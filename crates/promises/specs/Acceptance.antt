@@ -11,7 +11,7 @@ use Rattle.rules.specs.Readings.{acceptedOf}
 use Rattle.rules.specs.Calls.{pollCall, acceptedCall}
 use Rattle.rules.specs.Sound.{Ledger}
 use Rattle.rules.specs.AsRead.{Earned}
-use Rattle.promises.specs.Run.{Call, Open, Book, Poll, Ask, WriteFirst, ReadFirst, IndexBuild, IndexEnter, IndexFind, outcomeOf, opens, Station, run}
+use Rattle.promises.specs.Run.{Call, Open, Book, Poll, Ask, WriteFile, ReadFile, IndexBuild, IndexEnter, IndexFind, outcomeOf, opens, Station, run}
 
 -- in every sound workspace two accepted bookings of one slot are the same booking
 unfoldable pub AcceptedOnce : Type 0
@@ -67,8 +67,8 @@ isPoll (Open s) = false
 isPoll (Book name slot parents) = false
 isPoll (Poll name votes) = true
 isPoll (Ask what name) = false
-isPoll (WriteFirst buffer) = false
-isPoll (ReadFirst file) = false
+isPoll (WriteFile form buffer) = false
+isPoll (ReadFile form file) = false
 isPoll (IndexBuild index) = false
 isPoll (IndexEnter index) = false
 isPoll (IndexFind index name) = false

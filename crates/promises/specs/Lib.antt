@@ -10,5 +10,6 @@ pub mod Ranges
 pub mod Told
 pub mod DayFile
 pub mod ReadFile
+pub mod MoveFile
 pub mod NameIndex
 pub mod Refusals

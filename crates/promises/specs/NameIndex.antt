@@ -14,7 +14,7 @@ use Rattle.rules.specs.Calls.{bookCall, readingCall}
 use Rattle.name_index.specs.Index.{cells, cell, home, tried, newest, built}
 use Rattle.name_index.specs.AsRead.{NameMet, FirstEmpty}
 use Rattle.name_index.specs.Calls.{indexBuildCall, indexEnterCall, indexFindCall}
-use Rattle.promises.specs.Run.{Call, Open, Book, Poll, Ask, WriteFirst, ReadFirst, IndexBuild, IndexEnter, IndexFind, outcomeOf, Station, run}
+use Rattle.promises.specs.Run.{Call, Open, Book, Poll, Ask, WriteFile, ReadFile, IndexBuild, IndexEnter, IndexFind, outcomeOf, Station, run}
 use Rattle.promises.specs.Acceptance.{renews, NoneRenews}
 
 -- the plain search: the number of the booking with the name, refused as every reading is
@@ -75,8 +75,8 @@ adds (Open s) w = false
 adds (Book name slot parents) w = isTaken (bookCall w name slot parents .answer)
 adds (Poll name votes) w = false
 adds (Ask what name) w = false
-adds (WriteFirst buffer) w = false
-adds (ReadFirst file) w = false
+adds (WriteFile form buffer) w = false
+adds (ReadFile form file) w = false
 adds (IndexBuild index) w = false
 adds (IndexEnter index) w = false
 adds (IndexFind index name) w = false

@@ -7,6 +7,7 @@ use lib.IntN.{pos}
 use lib.ListN.{length, getD}
 use Rattle.terms.specs.declared.setting.Setting.{Setting}
 use Rattle.terms.specs.declared.answer.Reading.{Reading}
+use Rattle.terms.specs.declared.form.Form.{Form}
 use Rattle.terms.specs.Answers.{number, value}
 use Rattle.rules.specs.Layout.{size, slots, mostParents, mostBookings, bookings, settingIn, nameOf, stateOf}
 use Rattle.terms.specs.Setting.{Good}
@@ -14,14 +15,15 @@ use Rattle.rules.specs.IsSound.{recordRows}
 use Rattle.rules.specs.RowRules.{HeaderRules, RecordRules, SlotRules}
 use Rattle.rules.specs.Calls.{openCall, bookCall, pollCall, readCall}
 use Rattle.rules.specs.Listing.{listCall}
-use Rattle.day_file.specs.Bytes.{dayFile}
-use Rattle.day_file.specs.Calls.{writeFirstCall, readFirstCall}
+use Rattle.day_file.specs.Bytes.{fileOf}
+use Rattle.day_file.specs.Calls.{movedIn, writeFileCall, readFileCall, moveFileCall}
 use Rattle.name_index.specs.Index.{cells}
 use Rattle.name_index.specs.AsRead.{NameMet, NoneEmpty}
 use Rattle.name_index.specs.Calls.{indexBuildCall, indexEnterCall, indexFindCall}
 use Rattle.promises.specs.Run.{Call, outcomeOf, lentBy, lentAfter}
 use Rattle.promises.specs.Damage.{Broken}
-use Rattle.promises.specs.ReadFile.{Writable}
+use Rattle.promises.specs.ReadFile.{GoodIn}
+use Rattle.promises.specs.MoveFile.{OtherMarks}
 
 -- ---- a refused call changes nothing, neither the words nor the buffer lent besides, and has value 0; with 14 and 15 Damage.antt says what the value is
 
@@ -92,7 +94,7 @@ damagedListed w rest =
     (refuses 15 (Broken (SlotRules w) slots)
     rest))
 
--- 1 and these, which every call but opening and reading a file begins with
+-- 1 and these, which every call on a workspace alone begins with, but opening and reading a file
 abbrev pub testedListed : List ℕ → (ℕ → Type 0) → ℕ → Type 0
 testedListed w rest =
     refuses 1 (length w ≢ size)
@@ -126,18 +128,27 @@ ReadingListed w name =
     taken)
 
 -- 16: the buffer is shorter than the file
-abbrev pub WriteFileListed : List ℕ → List ℕ → ℕ → Type 0
-WriteFileListed w buffer =
+abbrev pub WriteFileListed : Form → List ℕ → List ℕ → ℕ → Type 0
+WriteFileListed form w buffer =
     testedListed w
-    (refuses 16 (length buffer < length (dayFile w))
+    (refuses 16 (length buffer < length (fileOf form w))
     taken)
 
--- 17: no run of taken calls writes the file. The words need only be of the right length
-abbrev pub ReadFileListed : List ℕ → List ℕ → ℕ → Type 0
-ReadFileListed w file =
+-- 17: the file isn't good, which people read so (ReadFile.antt): in the first form, no run of taken calls writes it; in the second, it is no such file with good
+-- marks behind it. The words need only be of the right length
+abbrev pub ReadFileListed : Form → List ℕ → List ℕ → ℕ → Type 0
+ReadFileListed form w file =
     refuses 1 (length w ≢ size)
-    (refuses 17 (Writable file → ⊥)
+    (refuses 17 (GoodIn form file → ⊥)
     taken)
+
+-- 17, and of the second form 19: its reading as a first form gives other marks. Then 16: the output is shorter than what is to be written
+abbrev pub MoveFileListed : Form → (file out : List ℕ) → ℕ → Type 0
+MoveFileListed form file out =
+    refuses 17 (GoodIn form file → ⊥)
+    (refuses 19 (OtherMarks form file)
+    (refuses 16 (length out < length (movedIn form file))
+    taken))
 
 -- 18 just after 1: what every call about an index begins with
 abbrev pub indexListed : (w index : List ℕ) → (ℕ → Type 0) → ℕ → Type 0
@@ -177,8 +188,9 @@ pub record RefusedListed : Type 0 where
   pub booking : (w : List ℕ) (name slot : ℕ) (parents : List ℕ) → BookListed w name slot parents (number (bookCall w name slot parents .answer))
   pub polling : (w : List ℕ) (name : ℕ) (votes : List ℕ) → PollListed w name votes (number (pollCall w name votes .answer))
   pub reading : (what : Reading) (w : List ℕ) (name : ℕ) → ReadingListed w name (number (readCall what w name))
-  pub writing : (w buffer : List ℕ) → WriteFileListed w buffer (number (writeFirstCall w buffer .answer))
-  pub readingFile : (w file : List ℕ) → ReadFileListed w file (number (readFirstCall w file .answer))
+  pub writing : (form : Form) (w buffer : List ℕ) → WriteFileListed form w buffer (number (writeFileCall form w buffer .answer))
+  pub readingFile : (form : Form) (w file : List ℕ) → ReadFileListed form w file (number (readFileCall form w file .answer))
+  pub moving : (form : Form) (file out : List ℕ) → MoveFileListed form file out (number (moveFileCall form file out .answer))
   pub building : (w index : List ℕ) → BuildListed w index (number (indexBuildCall w index .answer))
   pub entering : (w index : List ℕ) → EnterListed w index (number (indexEnterCall w index .answer))
   pub finding : (w index : List ℕ) (name : ℕ) → FindListed w index name (number (indexFindCall w index name))

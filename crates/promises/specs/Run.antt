@@ -5,23 +5,25 @@ use mathlib.Core.Bool.{Bool, true, false, cond}
 use mathlib.Core.List.{List, [], _∷_}
 use Rattle.terms.specs.declared.setting.Setting.{Setting}
 use Rattle.terms.specs.declared.answer.Reading.{Reading}
+use Rattle.terms.specs.declared.form.Form.{Form}
 use Rattle.terms.specs.Answers.{Outcome, outcome, isTaken}
 use Rattle.rules.specs.Book.{lookUp, numberOf}
 use Rattle.rules.specs.Poll.{isSuccess}
 use Rattle.rules.specs.Calls.{openCall, bookCall, pollCall, readCall}
 use Rattle.day_file.specs.Day.{DayPoll}
 use Rattle.day_file.specs.Decode.{decode}
-use Rattle.day_file.specs.Calls.{writeFirstCall, readFirstCall}
+use Rattle.day_file.specs.Calls.{writeFileCall, readFileCall}
 use Rattle.name_index.specs.Calls.{indexBuildCall, indexEnterCall, indexFindCall}
 
--- the thirteen calls; the five that Ask has are the readings, and three are about an index
+-- the fifteen calls on a workspace; the five that Ask has are the readings, writing and reading a file have two forms each, and three are about an index. A move
+-- of a file has no workspace (MoveFile.antt)
 pub data Call : Type 0 where
   Open : Setting → Call
   Book : (name slot : ℕ) (parents : List ℕ) → Call
   Poll : (name : ℕ) (votes : List ℕ) → Call
   Ask : (what : Reading) (name : ℕ) → Call
-  WriteFirst : (buffer : List ℕ) → Call
-  ReadFirst : (file : List ℕ) → Call
+  WriteFile : (form : Form) (buffer : List ℕ) → Call
+  ReadFile : (form : Form) (file : List ℕ) → Call
   IndexBuild : (index : List ℕ) → Call
   IndexEnter : (index : List ℕ) → Call
   IndexFind : (index : List ℕ) (name : ℕ) → Call
@@ -32,8 +34,8 @@ outcomeOf (Open s) w = openCall w s
 outcomeOf (Book name slot parents) w = bookCall w name slot parents
 outcomeOf (Poll name votes) w = pollCall w name votes
 outcomeOf (Ask what name) w = outcome (readCall what w name) w
-outcomeOf (WriteFirst buffer) w = outcome (writeFirstCall w buffer .answer) (writeFirstCall w buffer .words)
-outcomeOf (ReadFirst file) w = readFirstCall w file
+outcomeOf (WriteFile form buffer) w = outcome (writeFileCall form w buffer .answer) (writeFileCall form w buffer .words)
+outcomeOf (ReadFile form file) w = readFileCall form w file
 outcomeOf (IndexBuild index) w = outcome (indexBuildCall w index .answer) (indexBuildCall w index .words)
 outcomeOf (IndexEnter index) w = outcome (indexEnterCall w index .answer) (indexEnterCall w index .words)
 outcomeOf (IndexFind index name) w = outcome (indexFindCall w index name) w
@@ -44,13 +46,13 @@ opens (Open s) = true
 opens (Book name slot parents) = false
 opens (Poll name votes) = false
 opens (Ask what name) = false
-opens (WriteFirst buffer) = false
-opens (ReadFirst file) = true
+opens (WriteFile form buffer) = false
+opens (ReadFile form file) = true
 opens (IndexBuild index) = false
 opens (IndexEnter index) = false
 opens (IndexFind index name) = false
 
--- ---- three calls are lent a buffer to write into, beside the words; for the others it is empty. A file that is read and an index that is looked up in are only read
+-- ---- writing, and building and entering an index, are lent a buffer to write into, beside the words; for the others it is empty. A file that is read and an index that is looked up in are only read
 
 -- what stood in it before the call
 abbrev pub lentBy : Call → List ℕ
@@ -58,8 +60,8 @@ lentBy (Open s) = []
 lentBy (Book name slot parents) = []
 lentBy (Poll name votes) = []
 lentBy (Ask what name) = []
-lentBy (WriteFirst buffer) = buffer
-lentBy (ReadFirst file) = []
+lentBy (WriteFile form buffer) = buffer
+lentBy (ReadFile form file) = []
 lentBy (IndexBuild index) = index
 lentBy (IndexEnter index) = index
 lentBy (IndexFind index name) = []
@@ -70,8 +72,8 @@ lentAfter (Open s) w = []
 lentAfter (Book name slot parents) w = []
 lentAfter (Poll name votes) w = []
 lentAfter (Ask what name) w = []
-lentAfter (WriteFirst buffer) w = writeFirstCall w buffer .lent
-lentAfter (ReadFirst file) w = []
+lentAfter (WriteFile form buffer) w = writeFileCall form w buffer .lent
+lentAfter (ReadFile form file) w = []
 lentAfter (IndexBuild index) w = indexBuildCall w index .lent
 lentAfter (IndexEnter index) w = indexEnterCall w index .lent
 lentAfter (IndexFind index name) w = []
@@ -102,8 +104,8 @@ historyAfter (Book name slot parents) w h = h
 historyAfter (Poll name votes) w h =
     cond (isTaken (pollCall w name votes .answer)) (withPoll (isSuccess w votes) (numberOf (lookUp w name)) h) h
 historyAfter (Ask what name) w h = h
-historyAfter (WriteFirst buffer) w h = h
-historyAfter (ReadFirst file) w h = cond (isTaken (readFirstCall w file .answer)) (withPolls (decode file .polls) fresh) h
+historyAfter (WriteFile form buffer) w h = h
+historyAfter (ReadFile form file) w h = cond (isTaken (readFileCall form w file .answer)) (withPolls (decode file .polls) fresh) h
 historyAfter (IndexBuild index) w h = h
 historyAfter (IndexEnter index) w h = h
 historyAfter (IndexFind index name) w h = h

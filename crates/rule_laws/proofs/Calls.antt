@@ -28,6 +28,7 @@ use Rattle.terms.specs.declared.answer.Refusal.the-variants.{
   ShortBuffer,
   BadFile,
   WrongIndex,
+  OtherMarks,
   IndexFull,
 }
 use Rattle.terms.specs.declared.answer.Found.{Found}
@@ -61,6 +62,7 @@ refusalNumber-within (DamagedSlot row) = omega arith
 refusalNumber-within ShortBuffer = omega arith
 refusalNumber-within BadFile = omega arith
 refusalNumber-within WrongIndex = omega arith
+refusalNumber-within OtherMarks = omega arith
 refusalNumber-within IndexFull = omega arith
 
 pub number-refused : (r : Refusal) → number (Refused r) ≢ 0
@@ -111,6 +113,7 @@ row-other (DamagedSlot row) h k = absurd (k refl)
 row-other ShortBuffer h k = refl
 row-other BadFile h k = refl
 row-other WrongIndex h k = refl
+row-other OtherMarks h k = refl
 row-other IndexFull h k = refl
 
 -- the value of a refused call that names no row

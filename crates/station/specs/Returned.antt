@@ -11,7 +11,7 @@ pub record Returned (a : Answer) (r : ℕ) (v : ℤ) : Type 0 where
   pub numbered : r ≡ number a
   pub valued : v ≡ value a
 
--- and the words w left are those of the outcome
+-- and the words w left, or the bytes of a move's output, are those of the outcome
 pub record Handed (o : Outcome) (r : ℕ) (v : ℤ) (w : List ℕ) : Type 0 where
   pub told : Returned (o .answer) r v
   pub words : w ≡ o .words

@@ -2,9 +2,11 @@
 // Each returns the call's number, writes its value through the last pointer, and leaves the call's words, and the call's bytes or cells in a buffer
 // lent for them.
 use terms::answer::Answer;
+use terms::form::Form;
 use terms::setting::Setting;
 ghost use Rattle.rules.specs.Calls.{openCall, bookCall, pollCall, queryCall, acceptedCall, leadCall, confidenceCall, sizeCall};
-ghost use Rattle.day_file.specs.Calls.{writeFirstCall, readFirstCall};
+ghost use Rattle.terms.specs.declared.form.Form.the-variants.{First, Second};
+ghost use Rattle.day_file.specs.Calls.{writeFileCall, readFileCall, moveFileCall};
 ghost use Rattle.name_index.specs.Calls.{indexBuildCall, indexEnterCall, indexFindCall};
 ghost use Rattle.station.specs.Returned.{Returned, Handed, HandedOver};
 ghost use Rattle.terms.specs.Setting.{settingOf};
@@ -105,17 +107,50 @@ pub extern "C" fn filz_size(ws: &[u16], name: u64, value: &mut i64) -> u32
 // The day file, in its first form, at the front of the lent bytes; no word changes. Refusals 1, 2, 14, 15, 16.
 #[no_mangle]
 pub extern "C" fn filz_write_first(ws: &[u16], out: &mut [u8], value: &mut i64) -> u32
-    ensures { λ r. ⌜ HandedOver (writeFirstCall (now (ws .entry)) (now (out .entry))) r (now (value .exit)) (now (ws .entry)) (now (out .exit)) ⌝ }
+    ensures { λ r. ⌜ HandedOver (writeFileCall First (now (ws .entry)) (now (out .entry))) r (now (value .exit)) (now (ws .entry)) (now (out .exit)) ⌝ }
 {
-    tell(ledger::write_first(ws, out), value)
+    tell(ledger::write_file(ws, Form::First, out), value)
+}
+
+// The same in its second form, with the marks.
+#[no_mangle]
+pub extern "C" fn filz_write_second(ws: &[u16], out: &mut [u8], value: &mut i64) -> u32
+    ensures { λ r. ⌜ HandedOver (writeFileCall Second (now (ws .entry)) (now (out .entry))) r (now (value .exit)) (now (ws .entry)) (now (out .exit)) ⌝ }
+{
+    tell(ledger::write_file(ws, Form::Second, out), value)
 }
 
 // The words become the ledger that a day file, in its first form, carries, whatever they held; no byte changes. Refusals 1, 17.
 #[no_mangle]
 pub extern "C" fn filz_read_first(ws: &mut [u16], file: &[u8], value: &mut i64) -> u32
-    ensures { λ r. ⌜ Handed (readFirstCall (now (ws .entry)) (now (file .entry))) r (now (value .exit)) (now (ws .exit)) ⌝ }
+    ensures { λ r. ⌜ Handed (readFileCall First (now (ws .entry)) (now (file .entry))) r (now (value .exit)) (now (ws .exit)) ⌝ }
 {
-    tell(ledger::read_first(ws, file), value)
+    tell(ledger::read_file(ws, Form::First, file), value)
+}
+
+// The same of a day file in its second form, with its marks.
+#[no_mangle]
+pub extern "C" fn filz_read_second(ws: &mut [u16], file: &[u8], value: &mut i64) -> u32
+    ensures { λ r. ⌜ Handed (readFileCall Second (now (ws .entry)) (now (file .entry))) r (now (value .exit)) (now (ws .exit)) ⌝ }
+{
+    tell(ledger::read_file(ws, Form::Second, file), value)
+}
+
+// A day file in its first form, at the front of the lent output in its second, with the marks that its reading gives; no byte of the file changes.
+// Refusals 17, 16.
+#[no_mangle]
+pub extern "C" fn filz_move_first(file: &[u8], out: &mut [u8], value: &mut i64) -> u32
+    ensures { λ r. ⌜ Handed (moveFileCall First (now (file .entry)) (now (out .entry))) r (now (value .exit)) (now (out .exit)) ⌝ }
+{
+    tell(ledger::move_file(Form::First, file, out), value)
+}
+
+// A day file in its second form, at the front of the lent output in its first, without its marks; no byte of the file changes. Refusals 17, 19, 16.
+#[no_mangle]
+pub extern "C" fn filz_move_second(file: &[u8], out: &mut [u8], value: &mut i64) -> u32
+    ensures { λ r. ⌜ Handed (moveFileCall Second (now (file .entry)) (now (out .entry))) r (now (value .exit)) (now (out .exit)) ⌝ }
+{
+    tell(ledger::move_file(Form::Second, file, out), value)
 }
 
 // The index becomes the empty one with every booking's number entered, whatever it held; no word changes. Refusals 1, 18, 2, 14, 15.

@@ -20,6 +20,7 @@ use Rattle.terms.specs.declared.answer.Refusal.the-variants.{
   ShortBuffer,
   BadFile,
   WrongIndex,
+  OtherMarks,
   IndexFull,
 }
 use Rattle.terms.specs.declared.answer.Answer.{Answer}
@@ -46,4 +47,5 @@ taken-by-number (Refused (DamagedSlot row)) = refl
 taken-by-number (Refused ShortBuffer) = refl
 taken-by-number (Refused BadFile) = refl
 taken-by-number (Refused WrongIndex) = refl
+taken-by-number (Refused OtherMarks) = refl
 taken-by-number (Refused IndexFull) = refl

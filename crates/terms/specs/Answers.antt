@@ -23,6 +23,7 @@ use Rattle.terms.specs.declared.answer.Refusal.the-variants.{
   ShortBuffer,
   BadFile,
   WrongIndex,
+  OtherMarks,
   IndexFull,
 }
 use Rattle.terms.specs.declared.answer.Answer.{Answer}
@@ -47,6 +48,7 @@ refusalNumber (DamagedSlot row) = 15
 refusalNumber ShortBuffer = 16
 refusalNumber BadFile = 17
 refusalNumber WrongIndex = 18
+refusalNumber OtherMarks = 19
 refusalNumber IndexFull = 27
 
 -- the lowest row that breaks a rule, where a record or a slot is damaged; 0 for every other refusal
@@ -69,6 +71,7 @@ refusalRow (DamagedSlot row) = row
 refusalRow ShortBuffer = 0
 refusalRow BadFile = 0
 refusalRow WrongIndex = 0
+refusalRow OtherMarks = 0
 refusalRow IndexFull = 0
 
 -- a taken call returns 0 and its value, a refusal its number and its row
@@ -89,7 +92,7 @@ isTaken (Refused r) = false
 abbrev pub done : Answer
 done = Taken (pos 0)
 
--- what a call gives: its answer, and the words that it leaves
+-- what a call gives: its answer, and the words that it leaves; of a move, the bytes of its output
 pub record Outcome : Type 0 where
   pub answer : Answer
   pub words : List ℕ

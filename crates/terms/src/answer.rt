@@ -23,11 +23,12 @@ pub enum Refusal {
     ShortBuffer,
     BadFile,
     WrongIndex,
+    OtherMarks,
     IndexFull,
 }
 
-// Every call answers so. Open, book, poll, reading a file, building an index and entering are taken with value 0, a file is written with its length, and a
-// name is looked up with its booking's number.
+// Every call answers so. Open, book, poll, reading a file, building an index and entering are taken with value 0, a file is written or moved with its length,
+// and a name is looked up with its booking's number.
 pub enum Answer {
     Taken(i64),
     Refused(Refusal),
@@ -77,6 +78,7 @@ impl Refusal {
             Refusal::ShortBuffer => 16,
             Refusal::BadFile => 17,
             Refusal::WrongIndex => 18,
+            Refusal::OtherMarks => 19,
             Refusal::IndexFull => 27,
         }
     }
@@ -104,6 +106,7 @@ impl Refusal {
             Refusal::ShortBuffer => 0,
             Refusal::BadFile => 0,
             Refusal::WrongIndex => 0,
+            Refusal::OtherMarks => 0,
             Refusal::IndexFull => 0,
         }
     }

@@ -6,7 +6,7 @@
 //! busy machine more than half of one side's samples can be interrupted, and
 //! the middle one with them. A single call is seldom interrupted.
 
-use crate::ledgers::{case, rows, words_for, SIZES};
+use crate::ledgers::{case, rows, words_for, REFUSED, SIZES};
 use random::call::{Beside, Call, Face, Second};
 use second::layout::EDITION;
 use std::hint::black_box;
@@ -59,9 +59,18 @@ pub fn measure(before: Option<&dyn Face>) -> Vec<Cost> {
 fn measure_case(kind: &'static str, n: usize, before: Option<&dyn Face>) -> Cost {
     let case = case(kind, n);
     let copy = case.ws.clone();
-    let (mut lent, mut bytes) = (case.ws.clone(), case.call.lent_bytes());
+    let mut lent = case.ws.clone();
+    let (mut file, mut out) = (case.call.lent_file(), case.call.lent_out());
     let (index, mut cells) = (case.call.lent_cells(), case.call.lent_cells());
     let (call, reading) = (&case.call, &case.reading());
+    let beside = Beside {
+        file: &mut file,
+        out: &mut out,
+        cells: &mut cells,
+    };
+    let (number, _) = Second.call(&mut lent, beside, call);
+    let is_refused = case.note.starts_with(REFUSED);
+    assert_eq!(number != 0, is_refused, "{kind} on {n}");
     // An older build may ask for fewer words than there are now, and know
     // nothing of editions.
     let before =
@@ -92,7 +101,8 @@ fn measure_case(kind: &'static str, n: usize, before: Option<&dyn Face>) -> Cost
                 ws.copy_from_slice(words);
                 cells.copy_from_slice(&index);
                 let beside = Beside {
-                    bytes: &mut bytes,
+                    file: &mut file,
+                    out: &mut out,
                     cells: &mut cells,
                 };
                 times[who].push(sample(face, call, ws, beside));
@@ -146,7 +156,7 @@ pub fn print(costs: &[Cost]) {
     println!("reading the clock costs {clock:.0}, and is in every call");
     println!("a reading is our confidence of the last booking on the same words\n");
     println!(
-        "{:<11} {:>4} {:>11} {:>11} {:>11} {:>8} {:>12} {:>12} {:>12} {:>13}",
+        "{:<12} {:>4} {:>11} {:>11} {:>11} {:>8} {:>12} {:>12} {:>12} {:>13}",
         "call",
         "n",
         "ours",
@@ -164,7 +174,7 @@ pub fn print(costs: &[Cost]) {
             None => "-".to_string(),
         };
         println!(
-            "{:<11} {:>4} {:>11} {:>11} {:>11.0} {:>8.0} {:>12} {:>12} {:>12} {:>13}  {}",
+            "{:<12} {:>4} {:>11} {:>11} {:>11.0} {:>8.0} {:>12} {:>12} {:>12} {:>13}  {}",
             cost.kind,
             cost.n,
             number(cost.ours, 0),

@@ -3,9 +3,10 @@
 //! Every booking has the two before it as parents, so that the ancestry of
 //! the last is the whole ledger. Slots are taken in turn, names are spread
 //! over all 64 bits, the setting is the paper's, in the first edition but for
-//! two rows, and every booking but the last has a chit. The day file, written or read, is that of a ledger with
+//! two rows, and every booking but the last has a chit. The day file, written, read or moved, is that of a ledger with
 //! four parents each and every booking polled: no file of so many bookings is
-//! longer. An index is the built one, and before the last booking is entered that
+//! longer, but for the edition and further marks. All bookings come before all polls,
+//! so that the second form can be moved back. An index is the built one, and before the last booking is entered that
 //! of all others.
 //!
 //! A ledger is a list of calls. Another build of the product may lay its words
@@ -13,15 +14,19 @@
 
 use random::call::{Beside, Buffer, Call, Cells, Face, Indexing};
 use random::cells::built;
+use random::file;
 use random::grow::words_of;
 use random::planted::WORDS_WITHOUT_MARKS;
 use second::day::Day;
+use second::form::Form;
 use second::index::{CELLS, EMPTY};
 use second::layout::{BOOKINGS, N, PARENTS, SLOTS, WORDS};
 use second::ledger::{Ledger, Reading};
 use second::setting::Setting;
 
 pub const SIZES: [usize; 4] = [1, 64, 256, 512];
+/// How the note of a call starts that is not taken.
+pub const REFUSED: &str = "refused:";
 
 /// The name of booking `b`.
 pub fn name(b: usize) -> u64 {
@@ -163,6 +168,20 @@ fn index(count: usize) -> Cells {
     })
 }
 
+/// What is done with the longest file of a ledger.
+fn file_call(kind: &str, form: Form, ledger: &Ledger) -> Call {
+    let file = Day::of(ledger, form).file();
+    let buffer = |form: Form| Buffer {
+        room: file::length(ledger, form),
+        seed: 0,
+    };
+    match kind {
+        "write_first" | "write_second" => Call::WriteFile(form, buffer(form)),
+        "read_first" | "read_second" => Call::ReadFile(form, file),
+        _ => Call::MoveFile(form, file, buffer(form.other())),
+    }
+}
+
 /// The case of each row on a ledger of `n`.
 pub fn case(kind: &str, n: usize) -> Case {
     let last = name(n - 1);
@@ -185,7 +204,7 @@ pub fn case(kind: &str, n: usize) -> Case {
         }
         "poll" | FAILS | LATER | FAILS_LATER => {
             if n == 1 {
-                note = "refused: the genesis is polled".to_string();
+                note = format!("{REFUSED} the genesis is polled");
             }
             if kind == LATER || kind == FAILS_LATER {
                 calls[0] = Call::Open(PAPER_LATER);
@@ -196,16 +215,17 @@ pub fn case(kind: &str, n: usize) -> Case {
                 votes: yes_votes(Setting::PAPER.a - u16::from(!is_success)),
             }
         }
-        "write_first" | "read_first" => {
+        "write_first" | "read_first" | "write_second" | "read_second" | "move_first"
+        | "move_second" => {
             calls = booked(n, PARENTS, n);
-            let file = Day::of(&ledger(&calls)).file();
-            let room = file.len();
-            note = format!("{room} bytes: four parents each, all polled");
-            if kind == "write_first" {
-                Call::WriteFirst(Buffer { room, seed: 0 })
-            } else {
-                Call::ReadFirst(file)
-            }
+            let ledger = ledger(&calls);
+            let form = match kind.ends_with("_first") {
+                true => Form::First,
+                false => Form::Second,
+            };
+            let bytes = file::length(&ledger, form);
+            note = format!("{bytes} bytes: four parents each, all polled");
+            file_call(kind, form, &ledger)
         }
         "index_build" => Call::Index(Indexing::Build, index(n)),
         "index_enter" => {

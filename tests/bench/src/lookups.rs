@@ -71,8 +71,8 @@ impl Row {
                 for (calls, times) in [&finds, &searches].into_iter().zip(&mut times) {
                     times.push(each(calls, |call| {
                         let beside = Beside {
-                            bytes: &mut [],
                             cells: &mut cells,
+                            ..Beside::default()
                         };
                         black_box(face.call(&mut ws, beside, call));
                     }));

@@ -2,6 +2,7 @@
 
 use crate::prng::Prng;
 use crate::report::cells_text;
+use second::form::Form;
 use second::index::CELLS;
 use second::ledger::Reading;
 use second::setting::Setting;
@@ -21,10 +22,13 @@ pub enum Call {
         votes: Vec<u8>,
     },
     Read(Reading, u64),
-    /// The day file, into the buffer.
-    WriteFirst(Buffer),
+    /// The day file of a form, into the buffer.
+    WriteFile(Form, Buffer),
     /// The ledger, from these bytes.
-    ReadFirst(Vec<u8>),
+    ReadFile(Form, Vec<u8>),
+    /// These bytes, which are of the form, as a file of the other, into the
+    /// buffer. The words have nothing to do with it.
+    MoveFile(Form, Vec<u8>, Buffer),
     /// Something with an index that holds these cells.
     Index(Indexing, Cells),
 }
@@ -68,7 +72,7 @@ impl Buffer {
 }
 
 impl Call {
-    pub const KINDS: [&'static str; 13] = [
+    pub const KINDS: [&'static str; 17] = [
         "open",
         "book",
         "poll",
@@ -79,6 +83,10 @@ impl Call {
         "size",
         "write_first",
         "read_first",
+        "write_second",
+        "read_second",
+        "move_first",
+        "move_second",
         "index_build",
         "index_enter",
         "index_find",
@@ -90,8 +98,12 @@ impl Call {
             Call::Book { .. } => "book",
             Call::Poll { .. } => "poll",
             Call::Read(reading, _) => reading.word(),
-            Call::WriteFirst(_) => "write_first",
-            Call::ReadFirst(_) => "read_first",
+            Call::WriteFile(Form::First, _) => "write_first",
+            Call::WriteFile(Form::Second, _) => "write_second",
+            Call::ReadFile(Form::First, _) => "read_first",
+            Call::ReadFile(Form::Second, _) => "read_second",
+            Call::MoveFile(Form::First, ..) => "move_first",
+            Call::MoveFile(Form::Second, ..) => "move_second",
             Call::Index(Indexing::Build, _) => "index_build",
             Call::Index(Indexing::Enter, _) => "index_enter",
             Call::Index(Indexing::Find(_), _) => "index_find",
@@ -100,9 +112,7 @@ impl Call {
 
     /// Kinds that the console has a line for.
     pub fn lines() -> impl Iterator<Item = &'static str> {
-        Call::KINDS
-            .into_iter()
-            .filter(|kind| !kind.ends_with("_first") && !kind.starts_with("index_"))
+        Call::KINDS.into_iter().filter(|kind| !kind.contains('_'))
     }
 
     /// Kinds that lend an index.
@@ -115,26 +125,33 @@ impl Call {
     /// Whether a taken call of this kind changes words.
     pub fn is_change(&self) -> bool {
         match self {
-            Call::Open(_) | Call::Book { .. } | Call::Poll { .. } | Call::ReadFirst(_) => true,
-            Call::Read(..) | Call::WriteFirst(_) | Call::Index(..) => false,
+            Call::Open(_) | Call::Book { .. } | Call::Poll { .. } | Call::ReadFile(..) => true,
+            Call::Read(..) | Call::WriteFile(..) | Call::MoveFile(..) | Call::Index(..) => false,
         }
     }
 
-    /// Whether the call looks at nothing of the words but their number.
+    /// Whether the call looks at nothing of the words but their number, if at
+    /// that.
     pub fn is_blind(&self) -> bool {
         match self {
-            Call::Open(_) | Call::ReadFirst(_) => true,
+            Call::Open(_) | Call::ReadFile(..) | Call::MoveFile(..) => true,
             Call::Index(_, cells) => cells.0.len() != CELLS,
             _ => false,
         }
     }
 
-    /// The bytes that the call lends beside the words: mostly none. A file is
-    /// read from there too, so that a byte of it that is written shows.
-    pub fn lent_bytes(&self) -> Vec<u8> {
+    /// The file that the call lends beside the words: mostly none.
+    pub fn lent_file(&self) -> Vec<u8> {
         match self {
-            Call::WriteFirst(buffer) => buffer.bytes(),
-            Call::ReadFirst(file) => file.clone(),
+            Call::ReadFile(_, file) | Call::MoveFile(_, file, _) => file.clone(),
+            _ => Vec::new(),
+        }
+    }
+
+    /// What stands in the buffer that the call lends to be written, likewise.
+    pub fn lent_out(&self) -> Vec<u8> {
+        match self {
+            Call::WriteFile(_, buffer) | Call::MoveFile(_, _, buffer) => buffer.bytes(),
             _ => Vec::new(),
         }
     }
@@ -148,10 +165,12 @@ impl Call {
     }
 }
 
-/// What is lent beside the words: by most calls nothing.
+/// What is lent beside the words: by most calls nothing. A file may be
+/// written too, so that it shows.
 #[derive(Default)]
 pub struct Beside<'a> {
-    pub bytes: &'a mut [u8],
+    pub file: &'a mut [u8],
+    pub out: &'a mut [u8],
     pub cells: &'a mut [u16],
 }
 
@@ -176,7 +195,7 @@ pub struct Second;
 
 impl Face for Second {
     fn call(&self, ws: &mut [u16], beside: Beside, call: &Call) -> Answer {
-        let Beside { bytes, cells } = beside;
+        let Beside { file, out, cells } = beside;
         match call {
             Call::Open(s) => words::open(ws, s.k, s.a, s.beta1, s.beta2, s.edition),
             Call::Book {
@@ -186,8 +205,9 @@ impl Face for Second {
             } => words::book(ws, *name, *slot, parents),
             Call::Poll { name, votes } => words::poll(ws, *name, votes),
             Call::Read(reading, name) => words::read(ws, *reading, *name),
-            Call::WriteFirst(_) => words::write_first(ws, bytes),
-            Call::ReadFirst(_) => words::read_first(ws, bytes),
+            Call::WriteFile(form, _) => words::write_file(ws, *form, out),
+            Call::ReadFile(form, _) => words::read_file(ws, *form, file),
+            Call::MoveFile(form, ..) => words::move_file(*form, file, out),
             Call::Index(Indexing::Build, _) => words::index_build(ws, cells),
             Call::Index(Indexing::Enter, _) => words::index_enter(ws, cells),
             Call::Index(Indexing::Find(name), _) => words::index_find(ws, cells, *name),

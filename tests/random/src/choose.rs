@@ -6,10 +6,12 @@ use crate::cells;
 use crate::draft::Draft;
 use crate::file;
 use crate::grow::{any_accepted, good_setting, grow, parents_beside, Style};
+use crate::moved::moved;
 use crate::names::Names;
 use crate::prng::Prng;
-use crate::spoil::Kind;
-use second::day::{Day, LONGEST_FILE, SHORTEST_FILE};
+use crate::spoil::{any_marks, Kind};
+use second::day::Day;
+use second::form::Form;
 use second::layout::PARENTS;
 use second::ledger::{Ledger, Reading, Slot, State};
 use second::setting::Setting;
@@ -57,37 +59,46 @@ const AIMS: [(usize, Aim); 16] = [
 /// How many calls of a hundred write the day file.
 const WRITES: usize = 13;
 
-/// And how many read one: less where it is long, as it takes its time then.
+/// And how many read or move one: less where it is long, as it takes its time
+/// then.
 fn reads(ledger: &Ledger) -> usize {
     if ledger.bookings.len() > 100 {
-        4
+        6
     } else {
-        15
+        22
     }
 }
+
+/// How many of a hundred of those are moves.
+const MOVES: usize = 35;
 
 /// How many have to do with the index.
 const INDEXED: usize = 15;
 
 /// A call on the ledger. The style says which slots, parents and names are
-/// likely; `written` is a file of an earlier moment, if there is one, and
-/// `index` the one that the run keeps.
+/// likely; `written` is a file of an earlier moment, if there is one, with its
+/// form, and `index` the one that the run keeps.
 pub fn choose(
     prng: &mut Prng,
     ledger: &Ledger,
     style: &Style,
-    written: &[u8],
+    written: &Written,
     index: &[u16],
 ) -> Call {
     if prng.chance(INDEXED) {
         return choose_index(prng, ledger, style, index);
     }
     if prng.chance(WRITES) {
-        let room = any_room(prng, file::length(ledger));
-        return write_into(prng, room);
+        let form = prng.pick(&Form::ALL);
+        let room = any_room(prng, form, file::length(ledger, form));
+        return Call::WriteFile(form, any_buffer(prng, room));
     }
     if prng.chance(reads(ledger)) {
-        return Call::ReadFirst(any_file(prng, ledger, style, written));
+        let (form, file) = any_file(prng, ledger, style, written);
+        return match prng.chance(MOVES) {
+            true => move_into_any(prng, form, file),
+            false => Call::ReadFile(form, file),
+        };
     }
     choose_line(prng, ledger, style)
 }
@@ -114,45 +125,73 @@ fn choose_index(prng: &mut Prng, ledger: &Ledger, style: &Style, own: &[u16]) ->
     Call::Index(asked, Cells(cells))
 }
 
+/// The last file that was written, and its form.
+pub type Written = Option<(Form, Vec<u8>)>;
+
 /// A file of this ledger, an earlier one, or one of another ledger; as it was
-/// written or spoiled.
-fn any_file(prng: &mut Prng, ledger: &Ledger, style: &Style, written: &[u8]) -> Vec<u8> {
-    let file = match prng.below(10) {
-        0..=4 => Day::of(ledger).file(),
-        5..=8 if !written.is_empty() => written.to_vec(),
+/// written, with other marks, or spoiled.
+fn any_file(prng: &mut Prng, ledger: &Ledger, style: &Style, written: &Written) -> (Form, Vec<u8>) {
+    let form = prng.pick(&Form::ALL);
+    let (form, file) = match (prng.below(10), written) {
+        (0..=4, _) => (form, Day::of(ledger, form).file()),
+        (5..=8, Some(written)) => written.clone(),
         _ => {
             let n = prng.between(1, 9);
-            Day::of(&grow(prng, style.clone(), n).ledger).file()
+            let ledger = grow(prng, style.clone(), n).ledger;
+            (form, Day::of(&ledger, form).file())
         }
     };
-    if prng.chance(40) {
-        return file;
+    match prng.below(100) {
+        0..=29 => return (form, file),
+        // It passes for one of the other form.
+        30..=32 => return (form.other(), file),
+        _ => (),
     }
-    let kind = prng.pick(&Kind::ALL);
-    kind.spoil(prng, &Draft::of_file(&file))
+    let mut draft = Draft::of_file(&file, form);
+    if form == Form::Second && prng.chance(25) {
+        draft.marks = Some(any_marks(prng, &draft));
+        return (form, draft.bytes());
+    }
+    let kinds = Kind::of(form);
+    let of_marks: Vec<Kind> = kinds.iter().copied().filter(|k| k.is_of_marks()).collect();
+    let kind = match form {
+        Form::Second if prng.chance(40) => prng.pick(&of_marks),
+        _ => prng.pick(&kinds),
+    };
+    (form, kind.spoil(prng, &draft))
 }
 
-/// The day file, into a buffer with so much room.
-pub fn write_into(prng: &mut Prng, room: usize) -> Call {
+/// A move of the file, into a buffer with any room for what it gives, or for
+/// what it would if it were taken.
+pub fn move_into_any(prng: &mut Prng, form: Form, file: Vec<u8>) -> Call {
+    let to = form.other();
+    let length = moved(form, &file).map_or(file.len(), |moved| moved.len());
+    let room = any_room(prng, to, length.max(to.shortest()));
+    let buffer = any_buffer(prng, room);
+    Call::MoveFile(form, file, buffer)
+}
+
+/// A buffer with so much room.
+pub fn any_buffer(prng: &mut Prng, room: usize) -> Buffer {
     let seed = prng.draw();
-    Call::WriteFirst(Buffer { room, seed })
+    Buffer { room, seed }
 }
 
-/// Room for a file of this length, or not: shorter than any file, around this
-/// one, for the longest, and at times so much that its low sixteen bits are
-/// too little.
-fn any_room(prng: &mut Prng, length: usize) -> usize {
-    match prng.below(15) {
+/// Room for a file of this form and length, or not: shorter than any file,
+/// around this one, for the longest, and at times so much that its low sixteen
+/// bits are too little.
+fn any_room(prng: &mut Prng, form: Form, length: usize) -> usize {
+    match prng.below(16) {
         0 => 0,
         1 => 1,
-        2 => SHORTEST_FILE - 1,
+        2 => form.shortest() - 1,
         3 | 4 => length - 1,
         5 | 6 => length,
         7 => length + 1,
         8 => length + prng.between(2, 2000),
-        9 | 10 => LONGEST_FILE,
-        11 => 65_536 + prng.pick(&[0, 1, length - 1, length]),
-        12 => length - 2,
+        9 | 10 => form.longest(),
+        11 | 12 => 65_536 + prng.pick(&[0, 1, length - 1, length]),
+        13 => length - 2,
         _ => prng.below(2 * length),
     }
 }

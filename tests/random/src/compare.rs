@@ -5,12 +5,13 @@
 //! has another length. After each call the numbers, the values, all words, the
 //! lent bytes, the lent cells and the guards are compared; on reached ledgers
 //! the laws are checked, the row named for damage is held to where it was done, a
-//! day file and an index to the words, and marks to the words before. The ledger
-//! that a run has grown is written and read back.
+//! day file and an index to the words, a moved file to its bytes, and marks to the
+//! words before. The ledger that a run has grown is written and read back in both
+//! forms.
 
 use crate::call::{Beside, Call, Cells, Face, Indexing};
 use crate::cells::built;
-use crate::choose::{choose, choose_poll, read_contested, write_into};
+use crate::choose::{any_buffer, choose, choose_poll, move_into_any, read_contested, Written};
 use crate::damage::Damaged;
 use crate::editions::Turn;
 use crate::events::Moment;
@@ -20,12 +21,14 @@ use crate::guard::Guarded;
 use crate::made::{Made, Verdict};
 use crate::planted::WORDS_WITHOUT_MARKS;
 use crate::prng::Prng;
+use crate::replayed::Told;
 use crate::report::words_text;
 use crate::scramble::{scramble, scramble_marks};
 use crate::tally::{
     Tally, HANDED_ON, LAWS, LENGTH_WITHOUT_MARKS, MARK_LOST, REACHED, READ_BACK, TOLD, UNREACHED,
 };
 use second::codec::{decode, ledger_of};
+use second::form::Form;
 use second::laws::{check_accepted_once, History, Picture};
 use second::layout::{record, BOOKINGS, MARK, WORDS};
 use second::ledger::{Ledger, Reading};
@@ -84,8 +87,10 @@ struct Contest<'a> {
     ws: Vec<u16>,
     /// What led to the words, if a history did.
     history: Option<History>,
+    /// Whether a file told other marks than its polls lead to.
+    are_told: bool,
     /// The last file that was written of the run's own words.
-    written: Vec<u8>,
+    written: Written,
     /// The index that the run keeps: built, or left behind by bookings, or by
     /// an opening or a reading.
     index: Vec<u16>,
@@ -136,7 +141,7 @@ impl<'a> Contest<'a> {
         tally.add(if is_reached { REACHED } else { UNREACHED });
         let mut ahead = Vec::new();
         if is_reached && grown.style.late_rivals >= RIVALS && grown.ledger.bookings.len() < FEW {
-            let count = prng.between(5, 25);
+            let count = prng.between(10, 30);
             (grown, ahead) = grown.before_last(count);
         }
         let ws = words_of(&grown.ledger);
@@ -148,7 +153,8 @@ impl<'a> Contest<'a> {
             index: built(&grown.ledger),
             ws,
             history: is_reached.then_some(grown.history),
-            written: Vec::new(),
+            are_told: false,
+            written: None,
             ahead: ahead.into(),
             steps: Vec::new(),
         }
@@ -176,15 +182,21 @@ impl<'a> Contest<'a> {
                 self.step(prng, ledger, &call, tally)?;
                 continue;
             }
-            // The ledger that has grown is written once, and read once.
+            // The ledger that has grown is written once in each form; the file
+            // is read once, and moved.
             chosen += 1;
-            if chosen == 1 {
-                let call = write_into(prng, file::length(&ledger));
-                self.step(prng, ledger, &call, tally)?;
-                continue;
-            }
-            if chosen == 2 {
-                self.read_back(prng, tally)?;
+            if let Some(form) = Form::ALL.get((chosen - 1) / 3).copied() {
+                match (chosen % 3, &self.written) {
+                    (0, Some((_, file))) => {
+                        let call = move_into_any(prng, form, file.clone());
+                        self.step(prng, ledger, &call, tally)?;
+                    }
+                    (2, Some((_, file))) => self.read_back(prng, form, file.clone(), tally)?,
+                    _ => {
+                        let buffer = any_buffer(prng, file::length(&ledger, form));
+                        self.step(prng, ledger, &Call::WriteFile(form, buffer), tally)?;
+                    }
+                }
                 continue;
             }
             if self.history.is_none() && prng.chance(25) {
@@ -237,7 +249,8 @@ impl<'a> Contest<'a> {
         }
         if let (Ok(before), true) = (&verdict, Moment::is_one(call)) {
             let after = ledger_of(&self.ws);
-            tally.add_events(&Moment::new(call, before, &after), self.history.is_some());
+            let is_reached = self.history.is_some() && !self.are_told;
+            tally.add_events(&Moment::new(call, before, &after), is_reached);
             if let Call::Poll { name, .. } = call {
                 tally.add_turn(&Turn::new(*name, before, &after));
             }
@@ -247,6 +260,7 @@ impl<'a> Contest<'a> {
             (Call::Open(setting), history) => {
                 history.get_or_insert_with(History::default).opened(setting);
                 self.style.setting = *setting;
+                self.are_told = false;
             }
             (
                 Call::Book {
@@ -258,13 +272,17 @@ impl<'a> Contest<'a> {
             ) => history.booked(*name, *slot, parents),
             (Call::Poll { name, votes }, Some(history)) => history.polled(*name, votes),
             // So does a reading, with the file's polls as its start.
-            (Call::ReadFirst(file), history) => {
-                let day = parse(file).expect("the file was taken");
+            (Call::ReadFile(form, file), history) => {
+                let day = parse(file, *form).expect("the file was taken");
                 let history = history.get_or_insert_with(History::default);
                 history.handed_over(&day);
                 self.style.setting = day.setting;
+                let read = Told::of_words(&self.ws).outcome().marked();
+                self.are_told = day.marks.is_some_and(|told| told != read);
             }
-            (Call::WriteFirst(_), _) => self.written = made.bytes[..value as usize].to_vec(),
+            (Call::WriteFile(form, _), _) => {
+                self.written = Some((*form, made.out[..value as usize].to_vec()));
+            }
             _ => (),
         }
         match call {
@@ -280,10 +298,16 @@ impl<'a> Contest<'a> {
     }
 
     /// The file of the run's words, read into any other words. It leads back
-    /// to every word that a history led to but the marks: those are what comes
-    /// of all bookings before all polls.
-    fn read_back(&mut self, prng: &mut Prng, tally: &mut Tally) -> Result<(), String> {
-        let call = Call::ReadFirst(self.written.clone());
+    /// to every word that a history led to; but in the first form the marks are what
+    /// comes of all bookings before all polls.
+    fn read_back(
+        &mut self,
+        prng: &mut Prng,
+        form: Form,
+        file: Vec<u8>,
+        tally: &mut Tally,
+    ) -> Result<(), String> {
+        let call = Call::ReadFile(form, file);
         let before = match prng.below(3) {
             0 => vec![0; WORDS],
             1 => (0..WORDS).map(|_| prng.draw() as u16).collect(),
@@ -292,7 +316,11 @@ impl<'a> Contest<'a> {
         let verdict = decode(&before);
         let made = self.both("read back", &before, &verdict, &call, tally)?;
         if self.history.is_some() {
-            if without_marks(&made.words) != without_marks(&self.ws) {
+            let told = |ws: &[u16]| match form {
+                Form::First => without_marks(ws),
+                Form::Second => ws.to_vec(),
+            };
+            if told(&made.words) != told(&self.ws) {
                 let (words, meant) = (words_text(&made.words), words_text(&self.ws));
                 return Err(format!("a file read back gives {words}and not {meant}"));
             }
@@ -490,11 +518,11 @@ mod tests {
     }
 
     /// Likewise a file that both write wrongly, a buffer or words that both
-    /// leave changed, and a file that both read wrongly.
+    /// leave changed, and a file that both read or move wrongly.
     #[test]
     fn a_wrong_file_of_both_is_found() {
         let writing = Plant::FILE.into_iter().chain(Plant::WRITING);
-        for plant in writing.chain(Plant::READING) {
+        for plant in writing.chain(Plant::of_files()) {
             let both = Planted(Some(plant));
             let (_, difference) = compare(&both, &both, 10_000, 1);
             assert!(difference.is_some(), "{plant:?}");

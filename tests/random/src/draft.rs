@@ -2,6 +2,7 @@
 //! of the items; `spoil` has files whose counts are others.
 
 use second::day::Day;
+use second::form::Form;
 use second::parse::parse;
 use second::setting::Setting;
 
@@ -11,6 +12,8 @@ pub struct Draft {
     pub setting: Vec<u16>,
     pub rows: Vec<Row>,
     pub polls: Vec<Poll>,
+    /// Numbers of marked bookings, in the second form.
+    pub marks: Option<Vec<u16>>,
 }
 
 /// A booking.
@@ -53,16 +56,24 @@ impl Draft {
             setting,
             rows: rows.collect(),
             polls: polls.collect(),
+            marks: (day.marks.as_ref()).map(|marks| marks.iter().map(|&b| b as u16).collect()),
         }
     }
 
     /// The draft of a good file.
-    pub fn of_file(file: &[u8]) -> Draft {
-        Draft::of(&parse(file).expect("a good file is read"))
+    pub fn of_file(file: &[u8], form: Form) -> Draft {
+        Draft::of(&parse(file, form).expect("a good file is read"))
+    }
+
+    pub fn form(&self) -> Form {
+        match self.marks {
+            None => Form::First,
+            Some(_) => Form::Second,
+        }
     }
 
     pub fn bytes(&self) -> Vec<u8> {
-        let mut bytes = Vec::with_capacity(self.polls_at() + 2 + 4 * self.polls.len());
+        let mut bytes = Vec::with_capacity(self.marks_at());
         let mut number = |n: usize| bytes.extend((n as u16).to_be_bytes());
         number(self.setting.len());
         self.setting.iter().for_each(|&n| number(n.into()));
@@ -79,6 +90,10 @@ impl Draft {
         for poll in &self.polls {
             number(poll.booking.into());
             number(poll.outcome.into());
+        }
+        if let Some(marks) = &self.marks {
+            number(marks.len());
+            marks.iter().for_each(|&b| number(b.into()));
         }
         bytes
     }
@@ -99,6 +114,11 @@ impl Draft {
     pub fn polls_at(&self) -> usize {
         self.row_at(self.rows.len())
     }
+
+    /// Where the count of the marks stands, or would.
+    pub fn marks_at(&self) -> usize {
+        self.polls_at() + 2 + 4 * self.polls.len()
+    }
 }
 
 #[cfg(test)]
@@ -115,14 +135,19 @@ mod tests {
             let style = Style::any(&mut prng);
             let n = any_size(&mut prng, run);
             let ledger = grow(&mut prng, style, n).ledger;
-            let file = Day::of(&ledger).file();
-            let draft = Draft::of_file(&file);
-            assert_eq!(draft.bytes(), file);
-            let counts = [
+            let form = prng.pick(&Form::ALL);
+            let file = Day::of(&ledger, form).file();
+            let draft = Draft::of_file(&file, form);
+            assert_eq!((draft.bytes(), draft.form()), (file.clone(), form));
+            let mut counts = vec![
                 (0, draft.setting.len()),
                 (draft.rows_at(), draft.rows.len()),
                 (draft.polls_at(), draft.polls.len()),
             ];
+            match &draft.marks {
+                None => assert_eq!(draft.marks_at(), file.len()),
+                Some(marks) => counts.push((draft.marks_at(), marks.len())),
+            }
             for (at, count) in counts {
                 assert_eq!(file[at..at + 2], (count as u16).to_be_bytes());
             }

@@ -75,9 +75,9 @@ pub const EVENTS: [Event; 15] = [
     }),
 ];
 
-/// What only words show that no history reaches: after a poll there is nobody
-/// left who earns a mark, and a booking earns none for anybody, so that in a
-/// history a failed poll finds nobody to mark.
+/// What only words show that no history reaches, or whose marks a file told:
+/// after a poll there is nobody left who earns a mark, and a booking earns none for
+/// anybody, so that in a history a failed poll finds nobody to mark.
 pub const UNREACHED_EVENTS: [Event; 3] = [
     ("a failed poll that marks", |moment| {
         moment.is_failed() && !moment.newly.is_empty()

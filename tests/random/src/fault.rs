@@ -3,6 +3,7 @@
 //! those of both programs.
 
 use crate::file::Reader;
+use second::form::Form;
 use second::layout::{BOOKINGS, PARENTS, SLOTS};
 use std::collections::HashSet;
 
@@ -35,12 +36,24 @@ pub enum Fault {
     PollUnbooked,
     PolledTwice,
     Outcome,
+    /// Nobody is marked, not even the genesis.
+    NoMarks,
+    /// The first mark is not of the genesis.
+    GenesisUnmarked,
+    /// The same mark again.
+    MarkTwice,
+    /// A mark of a lower number than the one before.
+    MarkFalls,
+    /// A mark is of a number that no booking has.
+    MarkUnbooked,
+    /// A mark is of a slot that has one.
+    MarkOfRival,
     /// There are bytes behind it.
     Surplus,
 }
 
 impl Fault {
-    pub const ALL: [Fault; 17] = [
+    pub const ALL: [Fault; 23] = [
         Fault::Short,
         Fault::SettingCount,
         Fault::Setting,
@@ -57,16 +70,35 @@ impl Fault {
         Fault::PollUnbooked,
         Fault::PolledTwice,
         Fault::Outcome,
+        Fault::NoMarks,
+        Fault::GenesisUnmarked,
+        Fault::MarkTwice,
+        Fault::MarkFalls,
+        Fault::MarkUnbooked,
+        Fault::MarkOfRival,
         Fault::Surplus,
     ];
 
-    /// The first fault of a file, if it has one.
-    pub fn of(file: &[u8]) -> Option<Fault> {
-        judge(&mut Reader { file, at: 0 }).err()
+    /// The first fault of a file of this form, if it has one.
+    pub fn of(file: &[u8], form: Form) -> Option<Fault> {
+        judge(&mut Reader { file, at: 0 }, form).err()
+    }
+
+    /// Can a second form alone have it?
+    pub fn is_of_marks(self) -> bool {
+        match self {
+            Fault::NoMarks
+            | Fault::GenesisUnmarked
+            | Fault::MarkTwice
+            | Fault::MarkFalls
+            | Fault::MarkUnbooked
+            | Fault::MarkOfRival => true,
+            _ => false,
+        }
     }
 }
 
-fn judge(file: &mut Reader) -> Result<(), Fault> {
+fn judge(file: &mut Reader, form: Form) -> Result<(), Fault> {
     let numbers = number(file)?;
     if numbers != 4 && numbers != 5 {
         return Err(Fault::SettingCount);
@@ -85,11 +117,13 @@ fn judge(file: &mut Reader) -> Result<(), Fault> {
     }
     let booked = number(file)?;
     let mut names = HashSet::new();
+    // The genesis is of slot 0.
+    let mut slots = vec![0];
     for own in 1..=booked {
         if own >= BOOKINGS {
             return Err(Fault::TooMany);
         }
-        judge_booking(file, own, &mut names)?;
+        slots.push(judge_booking(file, own, &mut names)?);
     }
     let mut polled = HashSet::new();
     for _ in 0..number(file)? {
@@ -107,13 +141,45 @@ fn judge(file: &mut Reader) -> Result<(), Fault> {
             return Err(Fault::Outcome);
         }
     }
+    if form == Form::Second {
+        judge_marks(file, &slots)?;
+    }
     if file.at < file.file.len() {
         return Err(Fault::Surplus);
     }
     Ok(())
 }
 
-fn judge_booking(file: &mut Reader, own: usize, names: &mut HashSet<u64>) -> Result<(), Fault> {
+/// The slots are those of the bookings.
+fn judge_marks(file: &mut Reader, slots: &[usize]) -> Result<(), Fault> {
+    let count = number(file)?;
+    if count == 0 {
+        return Err(Fault::NoMarks);
+    }
+    if number(file)? != 0 {
+        return Err(Fault::GenesisUnmarked);
+    }
+    let mut before = 0;
+    let mut marked = HashSet::from([0]);
+    for _ in 1..count {
+        let mark = number(file)?;
+        if mark == before {
+            return Err(Fault::MarkTwice);
+        }
+        if mark < before {
+            return Err(Fault::MarkFalls);
+        }
+        let slot = slots.get(mark).ok_or(Fault::MarkUnbooked)?;
+        if !marked.insert(*slot) {
+            return Err(Fault::MarkOfRival);
+        }
+        before = mark;
+    }
+    Ok(())
+}
+
+/// Its slot.
+fn judge_booking(file: &mut Reader, own: usize, names: &mut HashSet<u64>) -> Result<usize, Fault> {
     let name = file.number(8).map_err(|_| Fault::Short)?;
     if name == 0 {
         return Err(Fault::NameZero);
@@ -140,7 +206,7 @@ fn judge_booking(file: &mut Reader, own: usize, names: &mut HashSet<u64>) -> Res
         }
         parents.push(parent);
     }
-    Ok(())
+    Ok(slot)
 }
 
 fn number(file: &mut Reader) -> Result<usize, Fault> {
@@ -177,7 +243,20 @@ mod tests {
                 row(6, 2, &[0, 1, 2, 3]),
             ],
             polls: vec![poll(3, 0), poll(1, 1), poll(4, 1)],
+            marks: None,
         }
+    }
+
+    /// In the second form: the marks are of slots 0, 255 and 2.
+    fn marked() -> Draft {
+        Draft {
+            marks: Some(vec![0, 2, 4]),
+            ..draft()
+        }
+    }
+
+    fn fault(draft: &Draft) -> Option<Fault> {
+        Fault::of(&draft.bytes(), draft.form())
     }
 
     /// Each fault by a change of a good file that makes no other.
@@ -221,23 +300,63 @@ mod tests {
             (Fault::Outcome, |d| d.polls[2].outcome = 65535),
             (Fault::SettingCount, |d| d.setting.clear()),
         ];
-        assert_eq!(Fault::of(&draft().bytes()), None);
-        for (fault, change) in cases {
-            let mut draft = draft();
-            change(&mut draft);
-            assert_eq!(Fault::of(&draft.bytes()), Some(fault), "{draft:?}");
+        for good in [draft(), marked()] {
+            assert_eq!(fault(&good), None);
+            for (meant, change) in cases {
+                let mut draft = good.clone();
+                change(&mut draft);
+                assert_eq!(fault(&draft), Some(meant), "{draft:?}");
+            }
+            let mut later = good.clone();
+            later.setting.push(1);
+            for draft in [good, later] {
+                let (file, form) = (draft.bytes(), draft.form());
+                assert_eq!(Fault::of(&file, form), None);
+                for length in 0..file.len() {
+                    assert_eq!(Fault::of(&file[..length], form), Some(Fault::Short));
+                }
+                for more in 1..20 {
+                    let longer = [&file[..], &vec![0; more]].concat();
+                    assert_eq!(Fault::of(&longer, form), Some(Fault::Surplus));
+                }
+            }
         }
-        let mut later = draft();
-        later.setting.push(1);
-        for file in [draft().bytes(), later.bytes()] {
-            assert_eq!(Fault::of(&file), None);
-            for length in 0..file.len() {
-                assert_eq!(Fault::of(&file[..length]), Some(Fault::Short));
-            }
-            for more in 1..20 {
-                let longer = [&file[..], &vec![0; more]].concat();
-                assert_eq!(Fault::of(&longer), Some(Fault::Surplus));
-            }
+        assert_eq!(
+            Fault::of(&marked().bytes(), Form::First),
+            Some(Fault::Surplus)
+        );
+        assert_eq!(
+            Fault::of(&draft().bytes(), Form::Second),
+            Some(Fault::Short)
+        );
+    }
+
+    /// The same of marks: 1 and 3 are of slot 1.
+    #[test]
+    fn each_fault_of_marks_is_what_its_name_says() {
+        let cases: [(Option<Fault>, &[u16]); 16] = [
+            (None, &[0]),
+            (None, &[0, 1, 2, 4]),
+            (None, &[0, 2, 3, 4]),
+            (Some(Fault::NoMarks), &[]),
+            (Some(Fault::GenesisUnmarked), &[1]),
+            (Some(Fault::GenesisUnmarked), &[2, 3, 4]),
+            (Some(Fault::GenesisUnmarked), &[65535]),
+            (Some(Fault::MarkTwice), &[0, 0]),
+            (Some(Fault::MarkTwice), &[0, 2, 4, 4]),
+            (Some(Fault::MarkFalls), &[0, 2, 1]),
+            (Some(Fault::MarkFalls), &[0, 4, 2]),
+            (Some(Fault::MarkUnbooked), &[0, 5]),
+            (Some(Fault::MarkUnbooked), &[0, 2, 4, 65535]),
+            (Some(Fault::MarkUnbooked), &[0, 256]),
+            (Some(Fault::MarkOfRival), &[0, 1, 3]),
+            (Some(Fault::MarkOfRival), &[0, 1, 2, 3, 4]),
+        ];
+        for (meant, marks) in cases {
+            let mut draft = marked();
+            draft.marks = Some(marks.to_vec());
+            assert_eq!(fault(&draft), meant, "{marks:?}");
+            assert!(meant.is_none_or(Fault::is_of_marks));
         }
     }
 
@@ -246,6 +365,6 @@ mod tests {
     fn a_full_ledger_has_a_file() {
         let mut draft = draft();
         draft.rows.extend((5..=511).map(|b| row(100 + b, 1, &[0])));
-        assert_eq!(Fault::of(&draft.bytes()), None);
+        assert_eq!(fault(&draft), None);
     }
 }

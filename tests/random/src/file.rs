@@ -3,6 +3,7 @@
 //! error of both would not pass.
 
 use second::day::{EDITION_BYTES, SHORTEST_FILE};
+use second::form::Form;
 use second::layout::*;
 use second::ledger::Ledger;
 
@@ -12,16 +13,20 @@ const PARENT_NUMBER: usize = 2;
 const POLL: usize = 4;
 
 /// How long the file of a ledger is.
-pub fn length(ledger: &Ledger) -> usize {
+pub fn length(ledger: &Ledger, form: Form) -> usize {
     let booking = |parents: usize| BOOKING + PARENT_NUMBER * parents;
     let bookings = ledger.bookings.iter().skip(1);
     let booked: usize = bookings.map(|b| booking(b.parents.len())).sum();
     let edition = EDITION_BYTES * usize::from(ledger.setting.edition);
-    SHORTEST_FILE + edition + booked + POLL * usize::from(ledger.polls)
+    let marks = match form {
+        Form::First => 0,
+        Form::Second => 2 + 2 * ledger.bookings.iter().filter(|b| b.is_marked).count(),
+    };
+    SHORTEST_FILE + edition + booked + POLL * usize::from(ledger.polls) + marks
 }
 
 /// Does the file say what the words do, and nothing else? They must be sound.
-pub fn check(file: &[u8], ws: &[u16]) -> Result<(), String> {
+pub fn check(file: &[u8], form: Form, ws: &[u16]) -> Result<(), String> {
     let mut file = Reader { file, at: 0 };
     let setting = [K, A, BETA1, BETA2, EDITION];
     // Without the edition where it is the first.
@@ -51,6 +56,13 @@ pub fn check(file: &[u8], ws: &[u16]) -> Result<(), String> {
             return Err(format!("poll {ordinal} is said to be of booking {b}"));
         }
         file.says(2, u16::from(ws[record(b) + STATE] == 2))?;
+    }
+    if form == Form::Second {
+        let marks = (0..n).filter(|&b| ws[record(b) + MARK] == 1);
+        file.says(2, marks.clone().count() as u16)?;
+        for b in marks {
+            file.says(2, b as u16)?;
+        }
     }
     if file.at < file.file.len() {
         return Err(format!("the file should end at byte {}", file.at));
@@ -89,10 +101,10 @@ mod tests {
     use crate::prng::Prng;
     use crate::scramble::scramble;
     use second::day::LONGEST_FILE;
-    use second::words::write_first;
+    use second::words::write_file;
 
     /// A ledger, its words and its file.
-    fn written(prng: &mut Prng, run: usize) -> (Ledger, Vec<u16>, Vec<u8>) {
+    fn written(prng: &mut Prng, run: usize, form: Form) -> (Ledger, Vec<u16>, Vec<u8>) {
         let style = Style::any(prng);
         let n = any_size(prng, run);
         let mut ledger = grow(prng, style, n).ledger;
@@ -100,8 +112,8 @@ mod tests {
             scramble(prng, &mut ledger);
         }
         let ws = words_of(&ledger);
-        let mut out = vec![0; LONGEST_FILE];
-        let (number, value) = write_first(&ws, &mut out);
+        let mut out = vec![0; form.longest()];
+        let (number, value) = write_file(&ws, form, &mut out);
         assert_eq!(number, 0);
         out.truncate(value as usize);
         (ledger, ws, out)
@@ -111,9 +123,12 @@ mod tests {
     fn lengths_and_contents_are_those_of_the_second_program() {
         let mut prng = Prng::new(1);
         for run in 0..100 {
-            let (ledger, ws, file) = written(&mut prng, run);
-            assert_eq!(length(&ledger), file.len());
-            assert_eq!(check(&file, &ws), Ok(()));
+            for form in Form::ALL {
+                let (ledger, ws, file) = written(&mut prng, run, form);
+                assert_eq!(length(&ledger, form), file.len());
+                assert_eq!(check(&file, form, &ws), Ok(()));
+                assert!(check(&file, form.other(), &ws).is_err());
+            }
         }
     }
 
@@ -122,15 +137,16 @@ mod tests {
     fn every_byte_is_looked_at() {
         let mut prng = Prng::new(2);
         for run in 1..60 {
-            let (_, ws, file) = written(&mut prng, run);
+            let form = prng.pick(&Form::ALL);
+            let (_, ws, file) = written(&mut prng, run, form);
             for at in (0..file.len()).step_by(1 + file.len() / 400) {
                 let mut other = file.clone();
                 other[at] ^= 1 << prng.below(8);
-                assert!(check(&other, &ws).is_err(), "byte {at}");
-                assert!(check(&file[..at], &ws).is_err(), "cut at {at}");
+                assert!(check(&other, form, &ws).is_err(), "byte {at}");
+                assert!(check(&file[..at], form, &ws).is_err(), "cut at {at}");
             }
             let longer = [&file[..], &[0]].concat();
-            assert!(check(&longer, &ws).is_err());
+            assert!(check(&longer, form, &ws).is_err());
         }
     }
 
@@ -141,7 +157,7 @@ mod tests {
             let mut style = Style::any(&mut prng);
             style.setting.edition = edition;
             let grown = grow_longest(&mut prng, style);
-            assert_eq!(length(&grown.ledger), longest);
+            assert_eq!(length(&grown.ledger, Form::First), longest);
         }
     }
 }

@@ -196,6 +196,7 @@ impl Flaw {
                     "siz",
                     "#",
                     "write_first",
+                    "move_second",
                 ];
                 line.pieces[0] = prng.pick(&words).to_string();
             }

@@ -16,6 +16,7 @@
 //! - `spoil`: good files spoiled
 //! - `fault`: why a file is bad
 //! - `replayed`: the marks and counters that reading one has to make
+//! - `moved`: the file that moving one has to give
 //!
 //! Indexes of names:
 //! - `cells`: indexes of all kinds
@@ -40,6 +41,7 @@
 //! - `misjudged`: the errors in what it says of damage
 //! - `miswritten`: the errors in the day files that it writes
 //! - `misread`: the errors in how it reads them
+//! - `mismoved`: the errors in how it moves them
 //! - `misindexed`: the errors in its index of names
 //!
 //! Console against console:
@@ -69,8 +71,10 @@ pub mod miscounted;
 pub mod misindexed;
 pub mod misjudged;
 pub mod mismarked;
+pub mod mismoved;
 pub mod misread;
 pub mod miswritten;
+pub mod moved;
 pub mod names;
 pub mod old_rule;
 pub mod planted;

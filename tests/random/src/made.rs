@@ -5,11 +5,13 @@ use crate::call::{Beside, Call, Face};
 use crate::fault::Fault;
 use crate::file;
 use crate::guard::Guarded;
+use crate::moved::moved;
 use crate::probed;
-use crate::replayed;
+use crate::replayed::Told;
 use crate::report::{bytes_text, cells_text, words_text};
 use second::codec::decode;
 use second::counting;
+use second::form::Form;
 use second::layout::{entry, record, COUNTER, EDITION, MARK, REST, WORDS};
 use second::ledger::{Ledger, Reading};
 use second::marking::{check_booking, check_opening, check_poll, is_marked};
@@ -24,27 +26,33 @@ pub struct Made {
     pub our_answer: Answer,
     pub their_answer: Answer,
     our_words: Guarded<u16>,
-    our_bytes: Guarded<u8>,
+    our_file: Guarded<u8>,
+    our_out: Guarded<u8>,
     our_cells: Guarded<u16>,
     /// What theirs left, which is what ours left where nothing differs.
     pub words: Vec<u16>,
-    pub bytes: Vec<u8>,
+    pub file: Vec<u8>,
+    pub out: Vec<u8>,
     pub cells: Vec<u16>,
 }
 
 impl Made {
     pub fn by(ours: &dyn Face, theirs: &dyn Face, before: &[u16], call: &Call) -> Made {
         let mut words = before.to_vec();
-        let (mut bytes, mut cells) = (call.lent_bytes(), call.lent_cells());
+        let (mut file, mut out) = (call.lent_file(), call.lent_out());
+        let mut cells = call.lent_cells();
         let mut our_words = Guarded::new(before);
-        let (mut our_bytes, mut our_cells) = (Guarded::new(&bytes[..]), Guarded::new(&cells[..]));
+        let (mut our_file, mut our_out) = (Guarded::new(&file[..]), Guarded::new(&out[..]));
+        let mut our_cells = Guarded::new(&cells[..]);
         let beside = Beside {
-            bytes: our_bytes.lend(),
+            file: our_file.lend(),
+            out: our_out.lend(),
             cells: our_cells.lend(),
         };
         let our_answer = ours.call(our_words.lend(), beside, call);
         let beside = Beside {
-            bytes: &mut bytes,
+            file: &mut file,
+            out: &mut out,
             cells: &mut cells,
         };
         let their_answer = theirs.call(&mut words, beside, call);
@@ -52,26 +60,32 @@ impl Made {
             our_answer,
             their_answer,
             our_words,
-            our_bytes,
+            our_file,
+            our_out,
             our_cells,
             words,
-            bytes,
+            file,
+            out,
             cells,
         }
     }
 
     /// What differs, or is not as it has to be, with all that was left.
     pub fn check(&self, before: &[u16], call: &Call, verdict: &Verdict) -> Result<(), String> {
-        let lent = call.lent_bytes();
+        let lent = call.lent_out();
         self.compare(before, &lent, call, verdict).map_err(|what| {
-            let text = |words: &[u16], bytes: &[u8], cells: &[u16]| {
-                let words = words_text(words);
-                format!("{words}{}{}", bytes_text(bytes), cells_text(cells))
+            let text = |words: &[u16], file: &[u8], out: &[u8], cells: &[u16]| {
+                let [file, out] = [file, out].map(bytes_text);
+                format!(
+                    "{}file {file}out {out}{}",
+                    words_text(words),
+                    cells_text(cells)
+                )
             };
-            let before = text(before, &lent, &call.lent_cells());
-            let (words, bytes) = (self.our_words.lent(), self.our_bytes.lent());
-            let ours = text(words, bytes, self.our_cells.lent());
-            let theirs = text(&self.words, &self.bytes, &self.cells);
+            let before = text(before, &call.lent_file(), &lent, &call.lent_cells());
+            let (file, out) = (self.our_file.lent(), self.our_out.lent());
+            let ours = text(self.our_words.lent(), file, out, self.our_cells.lent());
+            let theirs = text(&self.words, &self.file, &self.out, &self.cells);
             let (answer, other) = (self.our_answer, self.their_answer);
             format!(
                 "{what}\n{} answered {answer:?}, theirs {other:?}\n\
@@ -91,14 +105,15 @@ impl Made {
         let told = |is_so: bool, what: &str| if is_so { Ok(()) } else { Err(what.to_string()) };
         told(self.our_answer == self.their_answer, "another answer")?;
         told(self.our_words.lent() == self.words, "other words")?;
-        same("bytes", self.our_bytes.lent(), &self.bytes)?;
+        same("bytes of the file", self.our_file.lent(), &self.file)?;
+        same("bytes", self.our_out.lent(), &self.out)?;
         same("cells", self.our_cells.lent(), &self.cells)?;
         told(
             self.our_words.is_intact(),
             "a word outside the lent ones was written",
         )?;
         told(
-            self.our_bytes.is_intact(),
+            self.our_file.is_intact() && self.our_out.is_intact(),
             "a byte outside the lent ones was written",
         )?;
         told(
@@ -114,11 +129,16 @@ impl Made {
             !may_change || decode(&self.words).is_ok(),
             "a taken call left unsound words",
         )?;
+        told(
+            self.file == call.lent_file(),
+            "a byte of the file was changed",
+        )?;
         self.check_marks(before, call, verdict)?;
         self.check_counters(before, call, verdict)?;
         match call {
-            Call::WriteFirst(_) => self.check_written(lent, before, verdict),
-            Call::ReadFirst(file) => self.check_read(file, before),
+            Call::WriteFile(form, _) => self.check_written(*form, lent, before, verdict),
+            Call::ReadFile(form, file) => self.check_read(*form, file, before),
+            Call::MoveFile(form, file, _) => self.check_moved(*form, file, lent),
             Call::Index(asked, lent) => probed::check(
                 *asked,
                 (before, verdict),
@@ -177,10 +197,16 @@ impl Made {
 
     /// Did writing the file of these words do what it has to, whoever else
     /// did the same? The buffer had the bytes `lent`.
-    fn check_written(&self, lent: &[u8], ws: &[u16], verdict: &Verdict) -> Result<(), String> {
+    fn check_written(
+        &self,
+        form: Form,
+        lent: &[u8],
+        ws: &[u16],
+        verdict: &Verdict,
+    ) -> Result<(), String> {
         let mut written = 0;
         if let Ok(ledger) = verdict {
-            let (length, room) = (file::length(ledger), lent.len());
+            let (length, room) = (file::length(ledger, form), lent.len());
             let is_short = room < length;
             let meant = if is_short {
                 (16, 0)
@@ -195,18 +221,18 @@ impl Made {
                 ));
             }
         }
-        if self.bytes[written..] != lent[written..] {
+        if self.out[written..] != lent[written..] {
             return Err("a byte was written that is none of the file".to_string());
         }
         if written > 0 {
-            file::check(&self.bytes[..written], ws)?;
+            file::check(&self.out[..written], form, ws)?;
         }
         Ok(())
     }
 
     /// The same of reading a file into these words.
-    fn check_read(&self, file: &[u8], ws: &[u16]) -> Result<(), String> {
-        let fault = Fault::of(file);
+    fn check_read(&self, form: Form, file: &[u8], ws: &[u16]) -> Result<(), String> {
+        let fault = Fault::of(file, form);
         let meant = match fault {
             _ if ws.len() != WORDS => (1, 0),
             Some(_) => (17, 0),
@@ -218,14 +244,13 @@ impl Made {
                 "a file with the fault {fault:?}, answered {answer:?}, not {meant:?}"
             ));
         }
-        if self.bytes != file {
-            return Err("a byte of the file was changed".to_string());
-        }
         if meant.0 == 0 {
-            file::check(file, &self.words)?;
-            let outcome = replayed::outcome(&self.words);
+            // The marks are among it, if the form tells them.
+            file::check(file, form, &self.words)?;
+            let outcome = Told::of_words(&self.words).outcome();
             for (b, is_marked) in outcome.marks.into_iter().enumerate() {
-                if self.words[record(b) + MARK] != u16::from(is_marked) {
+                let is_given = self.words[record(b) + MARK] == 1;
+                if form == Form::First && is_given != is_marked {
                     return Err(format!("the file's polls lead to another mark of {b}"));
                 }
             }
@@ -234,6 +259,29 @@ impl Made {
                     return Err(format!("the file's polls lead slot {s} to {counter}"));
                 }
             }
+        }
+        Ok(())
+    }
+
+    /// The same of moving a file into a buffer that had the bytes `lent`.
+    fn check_moved(&self, form: Form, file: &[u8], lent: &[u8]) -> Result<(), String> {
+        let room = lent.len();
+        let (meant, left) = match moved(form, file) {
+            Err(refusal) => ((refusal.number(), 0), lent.to_vec()),
+            Ok(moved) if room < moved.len() => ((16, 0), lent.to_vec()),
+            Ok(moved) => {
+                let value = moved.len() as i64;
+                ((0, value), [&moved, &lent[moved.len()..]].concat())
+            }
+        };
+        let answer = self.our_answer;
+        if answer != meant {
+            return Err(format!(
+                "moved into {room} bytes, answered {answer:?}, not {meant:?}"
+            ));
+        }
+        if self.out != left {
+            return Err("another file was moved than has to be".to_string());
         }
         Ok(())
     }

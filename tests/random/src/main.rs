@@ -17,7 +17,7 @@ random consoles COUNT [SEED] --ours PATH   our console against the second one
 random calls COUNT [SEED]                  our library against the second one
 random calls COUNT [SEED] --ours RELAY     the same, asked through a program
 random calls COUNT [SEED] --copy           a copy of the second one against it
-random files COUNT [SEED] [as for calls]   the same, reading day files
+random files COUNT [SEED] [as for calls]   the same, on day files
 random plant [COUNT] [SEED]                planted errors must be found";
 
 fn main() -> ExitCode {
@@ -183,7 +183,7 @@ impl Order {
             });
             judge(format!("{plant:?}"), found);
         }
-        for plant in Plant::READING {
+        for plant in Plant::of_files() {
             let planted = Planted(Some(plant));
             let (tally, difference) = files::compare(&planted, &Second, self.count, self.seed);
             let found = difference.map(|_| format!("after {} files", tally.calls));

@@ -2,12 +2,14 @@
 //! most files for what they are.
 
 use crate::planted::Plant;
+use second::form::Form;
 use second::ledger::{Ledger, GENESIS};
 use second::refusal::Refusal;
 use second::setting::Setting;
+use std::collections::BTreeSet;
 
 /// The ledger of a file.
-pub fn read(plant: Option<Plant>, file: &[u8]) -> Result<Ledger, Refusal> {
+pub fn read(plant: Option<Plant>, form: Form, file: &[u8]) -> Result<Ledger, Refusal> {
     let mut bytes = file;
     if plant == Some(Plant::FileLengthInSixteenBits) {
         bytes = &file[..file.len() % 65_536];
@@ -17,11 +19,29 @@ pub fn read(plant: Option<Plant>, file: &[u8]) -> Result<Ledger, Refusal> {
         bytes,
         at: 0,
     };
-    let ledger = reader.ledger()?;
-    if reader.at < bytes.len() && !reader.has(Plant::TrailingBytesTaken) {
+    let mut ledger = reader.ledger()?;
+    let is_over = reader.at == bytes.len();
+    let has_marks = form == Form::Second && !(is_over && reader.has(Plant::FourthSectionOptional));
+    if has_marks {
+        reader.marks(&mut ledger)?;
+    }
+    let is_taken =
+        reader.has(Plant::TrailingBytesTaken) || has_marks && reader.has(Plant::TrailingMarksTaken);
+    if reader.at < bytes.len() && !is_taken {
         return Err(Refusal::File);
     }
     Ok(ledger)
+}
+
+/// The ledger of the first three sections, and where they end.
+pub fn read_front(file: &[u8]) -> Result<(Ledger, usize), Refusal> {
+    let mut reader = Reader {
+        plant: None,
+        bytes: file,
+        at: 0,
+    };
+    let ledger = reader.ledger()?;
+    Ok((ledger, reader.at))
 }
 
 struct Reader<'a> {
@@ -186,6 +206,63 @@ impl Reader<'_> {
             }
         }
         Ok(())
+    }
+
+    fn marks(&mut self, ledger: &mut Ledger) -> Result<(), Refusal> {
+        let mut count = usize::from(self.number()?);
+        if self.has(Plant::MarkCountUnread) {
+            count = (self.bytes.len() - self.at) / 2;
+        }
+        let mut marks = Vec::new();
+        for _ in 0..count {
+            let number = usize::from(self.number()?);
+            marks.push(match self.plant {
+                Some(Plant::MarkInLowByte) => number % 256,
+                _ => number,
+            });
+        }
+        if !self.are_good(ledger, &marks) {
+            return Err(Refusal::File);
+        }
+        for (b, booking) in ledger.bookings.iter_mut().enumerate() {
+            let (was, is) = (booking.is_marked, marks.contains(&b) || b == GENESIS);
+            booking.is_marked = match self.plant {
+                Some(Plant::ReplayedMarksKept) => was,
+                Some(Plant::MarksOnlyAdded) => was || is,
+                Some(Plant::MarksOnlyDropped) => was && is,
+                _ => is,
+            };
+        }
+        Ok(())
+    }
+
+    fn are_good(&self, ledger: &Ledger, marks: &[usize]) -> bool {
+        let n = ledger.bookings.len();
+        let is_first = match marks.first() {
+            None => self.has(Plant::NoMarksTaken),
+            Some(&first) => first == GENESIS || self.has(Plant::GenesisUnmarkedTaken),
+        };
+        let is_rising = marks.windows(2).all(|pair| {
+            pair[0] < pair[1]
+                || pair[0] == pair[1] && self.has(Plant::EqualMarksTaken)
+                || pair[0] > pair[1] && self.has(Plant::FallingMarksTaken)
+        });
+        let is_booked = marks.iter().all(|&b| match self.plant {
+            Some(Plant::MarkOfNTaken) => b <= n,
+            Some(Plant::MarkAboveNTaken) => b != n,
+            Some(Plant::NewestMarkRefused) => b < n - 1 || b == GENESIS,
+            _ => b < n,
+        });
+        let booked = marks.iter().filter_map(|&b| ledger.bookings.get(b));
+        let is_earned = booked.clone().skip(1).all(|booking| booking.confidence > 0);
+        // Each number once, if it may be there twice.
+        let mut once: Vec<usize> = marks.iter().copied().filter(|&b| b < n).collect();
+        once.sort();
+        once.dedup();
+        let slots: BTreeSet<u16> = booked.map(|booking| booking.slot).collect();
+        let is_alone = slots.len() == once.len() || self.has(Plant::RivalMarksTaken);
+        let is_earned = is_earned || !self.has(Plant::UnearnedMarksRefused);
+        is_first && is_rising && is_booked && is_alone && is_earned
     }
 
     fn number(&mut self) -> Result<u16, Refusal> {

@@ -1,21 +1,24 @@
 //! The day file with errors planted, for `planted`. Each leaves most of the
 //! file as it is.
 
+use crate::misread;
+use crate::old_rule;
 use crate::planted::Plant;
 use second::day::EDITION_BYTES;
+use second::form::Form;
 use second::ledger::{Booking, Ledger, State};
 use second::refusal::Refusal;
 use second::setting::Setting;
 
 /// Writes the file of a ledger to the front of the buffer; gives its length.
-pub fn write(plant: Option<Plant>, ledger: &Ledger, out: &mut [u8]) -> Result<usize, Refusal> {
+pub fn write(
+    plant: Option<Plant>,
+    form: Form,
+    ledger: &Ledger,
+    out: &mut [u8],
+) -> Result<usize, Refusal> {
     let has = |other: Plant| plant == Some(other);
-    let mut writer = Writer {
-        plant,
-        bytes: Vec::new(),
-    };
-    writer.ledger(ledger);
-    let file = writer.bytes;
+    let file = file(plant, form, ledger);
     let (mut length, mut room) = (file.len(), out.len());
     if has(Plant::RoomInSixteenBits) {
         room %= 65_536;
@@ -28,6 +31,9 @@ pub fn write(plant: Option<Plant>, ledger: &Ledger, out: &mut [u8]) -> Result<us
     }
     if has(Plant::EditionUnmeasured) && ledger.setting.is_later() && room < length {
         length = room.max(length - EDITION_BYTES);
+    }
+    if has(Plant::MarksUnmeasured) && form == Form::Second && room < length {
+        length = room.max(length - form.marks(ledger.marked().len()));
     }
     if room < length {
         if has(Plant::ShortBufferBegun) {
@@ -48,6 +54,19 @@ pub fn write(plant: Option<Plant>, ledger: &Ledger, out: &mut [u8]) -> Result<us
     } else {
         length
     })
+}
+
+/// The file of a ledger.
+pub fn file(plant: Option<Plant>, form: Form, ledger: &Ledger) -> Vec<u8> {
+    let mut writer = Writer {
+        plant,
+        bytes: Vec::new(),
+    };
+    writer.ledger(ledger);
+    if form == Form::Second {
+        writer.marks(ledger);
+    }
+    writer.bytes
 }
 
 struct Writer {
@@ -128,6 +147,31 @@ impl Writer {
             } else {
                 self.number(is_success.into());
             }
+        }
+    }
+
+    fn marks(&mut self, ledger: &Ledger) {
+        let mut marks = ledger.marked();
+        match self.plant {
+            Some(Plant::GenesisMarkNotWritten) => drop(marks.remove(0)),
+            Some(Plant::MarksFallWritten) => marks.reverse(),
+            Some(Plant::MarksBySlot) => marks.sort_by_key(|&b| ledger.bookings[b].slot),
+            Some(Plant::MarksOfReadingWritten) => {
+                let first = file(None, Form::First, ledger);
+                let read = misread::read(None, Form::First, &first);
+                marks = read.expect("it was written").marked();
+            }
+            Some(Plant::MarksByOldRuleWritten) => {
+                let accepted = old_rule::accepted(ledger);
+                marks = (0..accepted.len()).filter(|&b| accepted[b]).collect();
+            }
+            _ => (),
+        }
+        if !self.has(Plant::MarksUncounted) {
+            self.number(marks.len());
+        }
+        for b in marks {
+            self.number(b);
         }
     }
 

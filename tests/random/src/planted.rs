@@ -6,11 +6,12 @@ use crate::miscounted;
 use crate::misindexed;
 use crate::misjudged;
 use crate::mismarked;
+use crate::mismoved;
 use crate::misread;
 use crate::miswritten;
 use crate::old_rule;
 use second::codec::{encode, ledger_of};
-use second::day::SHORTEST_FILE;
+use second::form::Form;
 use second::index::EMPTY;
 use second::layout::*;
 use second::ledger::{read_vote, Ledger, Reading, State, Vote};
@@ -138,6 +139,14 @@ pub enum Plant {
     ShortBufferBegun,
     ByteWrittenPastFile,
     RestOfBufferCleared,
+    // its marks, in the second form
+    MarksUncounted,
+    GenesisMarkNotWritten,
+    MarksFallWritten,
+    MarksBySlot,
+    MarksUnmeasured,
+    MarksOfReadingWritten,
+    MarksByOldRuleWritten,
     // the call that writes it
     ShortBufferBeforeDamage,
     DamageClearsBuffer,
@@ -177,6 +186,43 @@ pub enum Plant {
     DamagedWordsNotReadInto,
     BadFileBeforeLength,
     ReadingHasFileLength,
+    // the marks of a file that is read
+    NoMarksTaken,
+    GenesisUnmarkedTaken,
+    EqualMarksTaken,
+    FallingMarksTaken,
+    MarkOfNTaken,
+    MarkAboveNTaken,
+    NewestMarkRefused,
+    RivalMarksTaken,
+    UnearnedMarksRefused,
+    TrailingMarksTaken,
+    MarkCountUnread,
+    MarkInLowByte,
+    FourthSectionOptional,
+    ReplayedMarksKept,
+    MarksOnlyAdded,
+    MarksOnlyDropped,
+    // a file that is moved to the other form
+    OtherMarksBeforeBadFile,
+    RoomBeforeOtherMarks,
+    RoomBeforeBadFile,
+    GenesisAloneMoved,
+    MarksByOldRuleMoved,
+    PreferredMoved,
+    OtherMarksDropped,
+    LostMarksAloneCompared,
+    NewMarksAloneCompared,
+    MarksComparedByCount,
+    OtherMarksMovedAnyway,
+    SectionKeptMovingBack,
+    EitherFormMoved,
+    MoveHasInputLength,
+    MoveHasNoValue,
+    JustEnoughForMoveRefused,
+    ShortMoveBegun,
+    RestClearedByMove,
+    MoveChangesFile,
     // the index of names
     HashedLowestByteFirst,
     HighHalfUnhashed,
@@ -309,7 +355,7 @@ impl Plant {
         Plant::UnknownNameBeforeDamage,
         Plant::RefusedCallMendsCounters,
     ];
-    pub const FILE: [Plant; 23] = [
+    pub const FILE: [Plant; 30] = [
         Plant::LowByteFirst,
         Plant::EditionNotWritten,
         Plant::EditionAlwaysWritten,
@@ -333,6 +379,13 @@ impl Plant {
         Plant::ShortBufferBegun,
         Plant::ByteWrittenPastFile,
         Plant::RestOfBufferCleared,
+        Plant::MarksUncounted,
+        Plant::GenesisMarkNotWritten,
+        Plant::MarksFallWritten,
+        Plant::MarksBySlot,
+        Plant::MarksUnmeasured,
+        Plant::MarksOfReadingWritten,
+        Plant::MarksByOldRuleWritten,
     ];
     pub const WRITING: [Plant; 3] = [
         Plant::ShortBufferBeforeDamage,
@@ -340,7 +393,7 @@ impl Plant {
         Plant::LengthKeptInHeader,
     ];
 
-    pub const READING: [Plant; 34] = [
+    const READING: [Plant; 50] = [
         Plant::TrailingBytesTaken,
         Plant::MissingBytesAreZero,
         Plant::FileLengthInSixteenBits,
@@ -375,6 +428,44 @@ impl Plant {
         Plant::DamagedWordsNotReadInto,
         Plant::BadFileBeforeLength,
         Plant::ReadingHasFileLength,
+        Plant::NoMarksTaken,
+        Plant::GenesisUnmarkedTaken,
+        Plant::EqualMarksTaken,
+        Plant::FallingMarksTaken,
+        Plant::MarkOfNTaken,
+        Plant::MarkAboveNTaken,
+        Plant::NewestMarkRefused,
+        Plant::RivalMarksTaken,
+        Plant::UnearnedMarksRefused,
+        Plant::TrailingMarksTaken,
+        Plant::MarkCountUnread,
+        Plant::MarkInLowByte,
+        Plant::FourthSectionOptional,
+        Plant::ReplayedMarksKept,
+        Plant::MarksOnlyAdded,
+        Plant::MarksOnlyDropped,
+    ];
+
+    const MOVING: [Plant; 19] = [
+        Plant::OtherMarksBeforeBadFile,
+        Plant::RoomBeforeOtherMarks,
+        Plant::RoomBeforeBadFile,
+        Plant::GenesisAloneMoved,
+        Plant::MarksByOldRuleMoved,
+        Plant::PreferredMoved,
+        Plant::OtherMarksDropped,
+        Plant::LostMarksAloneCompared,
+        Plant::NewMarksAloneCompared,
+        Plant::MarksComparedByCount,
+        Plant::OtherMarksMovedAnyway,
+        Plant::SectionKeptMovingBack,
+        Plant::EitherFormMoved,
+        Plant::MoveHasInputLength,
+        Plant::MoveHasNoValue,
+        Plant::JustEnoughForMoveRefused,
+        Plant::ShortMoveBegun,
+        Plant::RestClearedByMove,
+        Plant::MoveChangesFile,
     ];
 
     pub const INDEX: [Plant; 30] = [
@@ -431,6 +522,11 @@ impl Plant {
             .filter(move |plant| !hidden.contains(plant))
     }
 
+    /// Those that the runs on files show.
+    pub fn of_files() -> impl Iterator<Item = Plant> {
+        Plant::READING.into_iter().chain(Plant::MOVING)
+    }
+
     pub fn all() -> impl Iterator<Item = Plant> {
         (Plant::VOTE.into_iter())
             .chain(Plant::MARKS)
@@ -438,7 +534,7 @@ impl Plant {
             .chain(Plant::DAMAGE)
             .chain(Plant::FILE)
             .chain(Plant::WRITING)
-            .chain(Plant::READING)
+            .chain(Plant::of_files())
             .chain(Plant::INDEX)
     }
 }
@@ -471,11 +567,14 @@ impl Planted {
             ws.copy_from_slice(&longer[..WORDS_WITHOUT_MARKS]);
             return result;
         }
-        let Beside { bytes: out, cells } = beside;
+        let Beside { file, out, cells } = beside;
+        if let Call::MoveFile(form, ..) = call {
+            return mismoved::moved(self.0, *form, file, out);
+        }
         let is_long = ws.len() > WORDS && self.has(Plant::LongerWorkspaceTaken);
         if ws.len() != WORDS && !is_long {
-            if self.has(Plant::BadFileBeforeLength) && matches!(call, Call::ReadFirst(_)) {
-                misread::read(self.0, out)?;
+            if let (true, Call::ReadFile(form, _)) = (self.has(Plant::BadFileBeforeLength), call) {
+                misread::read(self.0, *form, file)?;
             }
             if self.has(Plant::IndexLengthBeforeWords) && matches!(call, Call::Index(..)) {
                 misindexed::judge_length(self.0, cells)?;
@@ -490,15 +589,17 @@ impl Planted {
             encode(&ledger, ws);
             return Ok(0);
         }
-        if let Call::ReadFirst(_) = call {
-            return self.read(ws, out);
+        if let Call::ReadFile(form, _) = call {
+            return self.read(ws, *form, file);
         }
         if let Call::Index(asked, _) = call {
             return self.index(ws, cells, *asked, call);
         }
         let mut ledger = self.load(ws, out, call)?;
         match call {
-            Call::Open(_) | Call::ReadFirst(_) | Call::Index(..) => unreachable!("they are done"),
+            Call::Open(_) | Call::ReadFile(..) | Call::MoveFile(..) | Call::Index(..) => {
+                unreachable!("they are done")
+            }
             Call::Book {
                 name,
                 slot,
@@ -535,8 +636,8 @@ impl Planted {
                 }))
             }
             Call::Read(reading, name) => ledger.read(*reading, *name),
-            Call::WriteFirst(_) => {
-                let length = miswritten::write(self.0, &ledger, out)?;
+            Call::WriteFile(form, _) => {
+                let length = miswritten::write(self.0, *form, &ledger, out)?;
                 if self.has(Plant::LengthKeptInHeader) {
                     ws[HEADER_WORDS - 1] = length as u16;
                 }
@@ -546,13 +647,13 @@ impl Planted {
     }
 
     /// A day file, with the errors planted in what it does to the words.
-    fn read(&self, ws: &mut [u16], file: &[u8]) -> Result<i64, Refusal> {
+    fn read(&self, ws: &mut [u16], form: Form, file: &[u8]) -> Result<i64, Refusal> {
         if self.has(Plant::DamagedWordsNotReadInto) {
             if let Some(refusal) = misjudged::refusal(None, ws) {
                 return Err(refusal);
             }
         }
-        if self.has(Plant::OpenedBeforeFileIsJudged) && file.len() >= SHORTEST_FILE {
+        if self.has(Plant::OpenedBeforeFileIsJudged) && file.len() >= form.shortest() {
             let numbers: Vec<u16> = (file[2..10].chunks(2))
                 .map(|pair| u16::from_be_bytes([pair[0], pair[1]]))
                 .collect();
@@ -570,7 +671,7 @@ impl Planted {
                 encode(&opened, ws);
             }
         }
-        let ledger = misread::read(self.0, file)?;
+        let ledger = misread::read(self.0, form, file)?;
         let before = ws.to_vec();
         encode(&ledger, ws);
         if self.has(Plant::ReadingKeepsEdition) && before[EDITION] <= Setting::LATER {
@@ -627,8 +728,8 @@ impl Planted {
         let Some(refusal) = misjudged::refusal(self.0, ws) else {
             return Ok(ledger_of(ws));
         };
-        if let Call::WriteFirst(_) = call {
-            if self.has(Plant::ShortBufferBeforeDamage) && out.len() < SHORTEST_FILE {
+        if let Call::WriteFile(form, _) = call {
+            if self.has(Plant::ShortBufferBeforeDamage) && out.len() < form.shortest() {
                 return Err(Refusal::Room);
             }
             if self.has(Plant::DamageClearsBuffer) {

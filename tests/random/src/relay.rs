@@ -50,7 +50,8 @@ impl Relay {
             stdout.read_exact(number)?;
         }
         read_words(stdout, ws)?;
-        stdout.read_exact(beside.bytes)?;
+        stdout.read_exact(beside.file)?;
+        stdout.read_exact(beside.out)?;
         read_words(stdout, beside.cells)?;
         let [number, is_intact, value] = told.map(u64::from_le_bytes);
         if is_intact == 0 {
@@ -77,7 +78,7 @@ fn read_words(from: &mut impl Read, words: &mut [u16]) -> io::Result<()> {
 }
 
 /// A call as `struct asked` of `relay.c`, with the words, its list, and the
-/// bytes and the cells that it lends.
+/// file, the buffer and the cells that it lends.
 fn request(ws: &[u16], beside: &Beside, call: &Call) -> Vec<u8> {
     let kind = Call::KINDS.iter().position(|kind| *kind == call.kind());
     let mut numbers = [0; NUMBERS];
@@ -98,17 +99,19 @@ fn request(ws: &[u16], beside: &Beside, call: &Call) -> Vec<u8> {
         }
         Call::Poll { name, votes } => (*name, votes.len(), votes.clone()),
         Call::Read(_, name) | Call::Index(Indexing::Find(name), _) => (*name, 0, Vec::new()),
-        Call::WriteFirst(_) | Call::ReadFirst(_) | Call::Index(..) => (0, 0, Vec::new()),
+        _ => (0, 0, Vec::new()),
     };
     let kind = kind.expect("every kind is listed") as u64;
     let [words, count] = [ws.len(), count].map(|n| n as u64);
-    let [room, cells] = [beside.bytes.len(), beside.cells.len()].map(|n| n as u64);
-    let head = [kind, words, name, count, room, cells];
+    let beside_them = [beside.file.len(), beside.out.len(), beside.cells.len()];
+    let [length, room, cells] = beside_them.map(|n| n as u64);
+    let head = [kind, words, name, count, length, room, cells];
     let mut bytes: Vec<u8> = head.iter().flat_map(|n| n.to_le_bytes()).collect();
     bytes.extend(numbers.iter().flat_map(|n| n.to_le_bytes()));
     bytes.extend(ws.iter().flat_map(|word| word.to_le_bytes()));
     bytes.extend(list);
-    bytes.extend(&*beside.bytes);
+    bytes.extend(&*beside.file);
+    bytes.extend(&*beside.out);
     bytes.extend(beside.cells.iter().flat_map(|cell| cell.to_le_bytes()));
     bytes
 }

@@ -3,7 +3,9 @@
 
 use crate::draft::{Draft, Poll, Row};
 use crate::prng::Prng;
+use second::form::Form;
 use second::layout::{BOOKINGS, PARENTS};
+use std::collections::BTreeMap;
 
 /// What is done to a file.
 #[derive(Clone, Copy, Debug, PartialEq, Eq)]
@@ -50,13 +52,30 @@ pub enum Kind {
     PollRepeated,
     PollsSwapped,
     Overfull,
+    // marks, in the second form alone
+    /// Any marks that are good.
+    MarksOther,
+    /// Everybody's.
+    MarksAll,
+    MarksNone,
+    MarkOfGenesisDropped,
+    MarkDropped,
+    MarkMore,
+    MarkRepeated,
+    MarksSwapped,
+    /// One mark, mostly to an end of its range.
+    MarkNumber,
+    MarkOfRival,
+    MarkCount,
+    // the other form
+    OtherForm,
     // nothing is left of it, or only its setting
     RandomBytes,
     RandomNumbers,
 }
 
 impl Kind {
-    pub const ALL: [Kind; 35] = [
+    pub const ALL: [Kind; 47] = [
         Kind::ByteChanged,
         Kind::SeveralChanged,
         Kind::BytesSwapped,
@@ -90,9 +109,44 @@ impl Kind {
         Kind::PollRepeated,
         Kind::PollsSwapped,
         Kind::Overfull,
+        Kind::MarksOther,
+        Kind::MarksAll,
+        Kind::MarksNone,
+        Kind::MarkOfGenesisDropped,
+        Kind::MarkDropped,
+        Kind::MarkMore,
+        Kind::MarkRepeated,
+        Kind::MarksSwapped,
+        Kind::MarkNumber,
+        Kind::MarkOfRival,
+        Kind::MarkCount,
+        Kind::OtherForm,
         Kind::RandomBytes,
         Kind::RandomNumbers,
     ];
+
+    /// What can be done to a file of this form.
+    pub fn of(form: Form) -> Vec<Kind> {
+        let is_one = |kind: &Kind| form == Form::Second || !kind.is_of_marks();
+        Kind::ALL.into_iter().filter(is_one).collect()
+    }
+
+    pub fn is_of_marks(self) -> bool {
+        match self {
+            Kind::MarksOther
+            | Kind::MarksAll
+            | Kind::MarksNone
+            | Kind::MarkOfGenesisDropped
+            | Kind::MarkDropped
+            | Kind::MarkMore
+            | Kind::MarkRepeated
+            | Kind::MarksSwapped
+            | Kind::MarkNumber
+            | Kind::MarkOfRival
+            | Kind::MarkCount => true,
+            _ => false,
+        }
+    }
 
     /// The draft as a file that is spoiled so.
     pub fn spoil(self, prng: &mut Prng, good: &Draft) -> Vec<u8> {
@@ -103,7 +157,7 @@ impl Kind {
             | Kind::Cut
             | Kind::Longer
             | Kind::MuchLonger => self.spoil_bytes(prng, good.bytes()),
-            Kind::Count | Kind::ParentCount => self.spoil_count(prng, good),
+            Kind::Count | Kind::ParentCount | Kind::MarkCount => self.spoil_count(prng, good),
             Kind::EditionUncounted => {
                 let mut other = good.clone();
                 turn_edition(&mut other, prng.word(0, 2));
@@ -158,11 +212,13 @@ impl Kind {
     /// A count that is not true.
     fn spoil_count(self, prng: &mut Prng, good: &Draft) -> Vec<u8> {
         let mut draft = good.clone();
-        let at = if self == Kind::ParentCount {
-            let b = some_row(prng, &mut draft);
-            draft.row_at(b) + 10
-        } else {
-            prng.pick(&[0, draft.rows_at(), draft.polls_at()])
+        let at = match self {
+            Kind::ParentCount => {
+                let b = some_row(prng, &mut draft);
+                draft.row_at(b) + 10
+            }
+            Kind::MarkCount => draft.marks_at(),
+            _ => prng.pick(&[0, draft.rows_at(), draft.polls_at()]),
         };
         let mut file = draft.bytes();
         let count = u16::from_be_bytes([file[at], file[at + 1]]);
@@ -192,6 +248,14 @@ impl Kind {
                 draft.setting.push(prng.pick(&editions));
             }
             Kind::EditionTurned => turn_edition(draft, 1),
+            Kind::OtherForm => {
+                let any = prng.pick(&[vec![], vec![0], vec![0, 1]]);
+                draft.marks = match draft.marks {
+                    None => Some(any),
+                    Some(_) => None,
+                };
+            }
+            _ if self.is_of_marks() => self.spoil_marks(prng, draft),
             Kind::Outcome | Kind::PollBooking => {
                 let at = some_poll(prng, draft);
                 let n = draft.rows.len() as u16 + 1;
@@ -200,7 +264,7 @@ impl Kind {
                     let ends = [0, 1, 1 - poll.outcome, 2, 255, 256, 257];
                     poll.outcome = end_of_range(prng, poll.outcome, &ends);
                 } else {
-                    let ends = [0, 0, 1, n - 1, n, n + 1, 511, 512];
+                    let ends = [0, 0, 0, 0, 1, n - 1, n, n + 1, 511, 512];
                     poll.booking = end_of_range(prng, poll.booking, &ends);
                 }
             }
@@ -248,6 +312,57 @@ impl Kind {
                 outcome: prng.word(0, 1),
             }),
         }
+    }
+
+    /// Something about the marks.
+    fn spoil_marks(self, prng: &mut Prng, draft: &mut Draft) {
+        let at = some_mark(prng, draft);
+        let n = draft.rows.len() as u16 + 1;
+        let mut marks = draft.marks.take().expect("the form has marks");
+        match self {
+            Kind::MarksOther => marks = any_marks(prng, draft),
+            Kind::MarksAll => marks = (0..n).collect(),
+            Kind::MarksNone => marks.clear(),
+            Kind::MarkOfGenesisDropped => drop(marks.remove(0)),
+            Kind::MarkDropped => drop(marks.remove(at)),
+            Kind::MarkRepeated => {
+                let at = prng.pick(&[0, at, marks.len() - 1]);
+                marks.insert(at, marks[at]);
+            }
+            Kind::MarksSwapped => {
+                if marks.len() < 3 {
+                    add_row(prng, draft);
+                    marks.push(n);
+                }
+                // Mostly two that are not the genesis'.
+                let any = prng.between(1, marks.len() - 2);
+                let at = prng.pick(&[0, any, any]);
+                marks.swap(at, at + 1);
+            }
+            Kind::MarkNumber => {
+                let at = prng.pick(&[0, at, at, marks.len() - 1]);
+                let near = [marks[at].wrapping_sub(1), marks[at] + 1];
+                let ends = [0, 1, n - 1, n - 1, n, n, n, n + 1, 256, 511, 512, 65535];
+                marks[at] = prng.pick(&[&ends[..], &near].concat());
+            }
+            Kind::MarkOfRival => {
+                let slot = draft.rows[usize::from(marks[at]) - 1].slot;
+                let mut rivals = (1..n).filter(|b| draft.rows[usize::from(*b) - 1].slot == slot);
+                let rival = rivals.find(|b| !marks.contains(b)).unwrap_or_else(|| {
+                    add_row(prng, draft);
+                    draft.rows[usize::from(n) - 1].slot = slot;
+                    n
+                });
+                marks.push(rival);
+                marks.sort();
+            }
+            _ => {
+                let unmarked: Vec<u16> = (1..n).filter(|b| !marks.contains(b)).collect();
+                marks.extend(prng.sample(&unmarked, 1));
+                marks.sort();
+            }
+        }
+        draft.marks = Some(marks);
     }
 
     /// Something about one booking.
@@ -349,6 +464,36 @@ fn some_poll(prng: &mut Prng, draft: &mut Draft) -> usize {
     prng.below(draft.polls.len())
 }
 
+/// The place of a mark that is not the genesis', after one is added where
+/// there is none.
+fn some_mark(prng: &mut Prng, draft: &mut Draft) -> usize {
+    let booking = some_row(prng, draft) as u16 + 1;
+    let marks = draft.marks.as_mut().expect("the form has marks");
+    if marks.len() < 2 {
+        marks.push(booking);
+    }
+    prng.between(1, marks.len() - 1)
+}
+
+/// Any good marks: of each slot one booking's, or nobody's.
+pub fn any_marks(prng: &mut Prng, draft: &Draft) -> Vec<u16> {
+    let percent = prng.pick(&[0, 30, 70, 100, 100]);
+    let mut by_slot: BTreeMap<u16, Vec<u16>> = BTreeMap::new();
+    for (row, number) in draft.rows.iter().zip(1..) {
+        by_slot.entry(row.slot).or_default().push(number);
+    }
+    let mut marks = vec![0];
+    for bookings in by_slot.values() {
+        if prng.chance(percent) {
+            let last = bookings[bookings.len() - 1];
+            let any = prng.pick(bookings);
+            marks.push(prng.pick(&[any, last]));
+        }
+    }
+    marks.sort();
+    marks
+}
+
 /// A booking behind the others, on one or two of them.
 fn add_row(prng: &mut Prng, draft: &mut Draft) {
     let own = draft.rows.len() as u16 + 1;
@@ -398,16 +543,40 @@ mod tests {
             Kind::Overfull,
             Kind::SettingLonger,
             Kind::RandomBytes,
+            Kind::MarksNone,
+            Kind::MarkOfGenesisDropped,
+            Kind::MarkRepeated,
+            Kind::MarksSwapped,
+            Kind::MarkOfRival,
+            Kind::OtherForm,
+        ];
+        let never_bad = [
+            Kind::EditionTurned,
+            Kind::BookingMore,
+            Kind::PollDropped,
+            Kind::PollsSwapped,
+            Kind::MarksOther,
+            Kind::MarkDropped,
         ];
         let mut met = BTreeSet::new();
-        for kind in Kind::ALL {
+        let kinds = Form::ALL.map(|form| (form, Kind::of(form)));
+        let kinds = kinds.into_iter().flat_map(|(form, kinds)| {
+            let of_form = kinds.into_iter().map(move |kind| (form, kind));
+            of_form.collect::<Vec<_>>()
+        });
+        for (form, kind) in kinds {
             let (mut good, mut bad) = (0, 0);
             for _ in 0..1200 {
                 let style = Style::any(&mut prng);
                 let n = prng.between(1, 7);
                 let ledger = grow(&mut prng, style, n).ledger;
-                let file = kind.spoil(&mut prng, &Draft::of(&Day::of(&ledger)));
-                match Fault::of(&file) {
+                let mut draft = Draft::of(&Day::of(&ledger, form));
+                if form == Form::Second {
+                    draft.marks = Some(any_marks(&mut prng, &draft));
+                    assert_eq!(Fault::of(&draft.bytes(), form), None);
+                }
+                let file = kind.spoil(&mut prng, &draft);
+                match Fault::of(&file, form) {
                     Some(fault) => {
                         met.insert(format!("{fault:?}"));
                         bad += 1;
@@ -415,14 +584,8 @@ mod tests {
                     None => good += 1,
                 }
             }
-            assert_eq!(good == 0, never_good.contains(&kind), "{kind:?}");
-            let never_bad = [
-                Kind::EditionTurned,
-                Kind::BookingMore,
-                Kind::PollDropped,
-                Kind::PollsSwapped,
-            ];
-            assert_eq!(bad == 0, never_bad.contains(&kind), "{kind:?}");
+            assert_eq!(good == 0, never_good.contains(&kind), "{form:?} {kind:?}");
+            assert_eq!(bad == 0, never_bad.contains(&kind), "{form:?} {kind:?}");
         }
         let all = Fault::ALL.map(|fault| format!("{fault:?}"));
         assert_eq!(met, BTreeSet::from(all));

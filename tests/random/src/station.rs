@@ -1,6 +1,7 @@
 //! The product through its C face: as it is linked in, or another build of it.
 
 use crate::call::{Beside, Call, Face, Indexing};
+use second::form::Form;
 use second::ledger::Reading;
 use second::setting::Setting;
 use second::words::Answer;
@@ -16,6 +17,7 @@ type Poll = unsafe extern "C" fn(*mut u16, usize, u64, *const u8, usize, *mut i6
 type Read = unsafe extern "C" fn(*const u16, usize, u64, *mut i64) -> u32;
 type Write = unsafe extern "C" fn(*const u16, usize, *mut u8, usize, *mut i64) -> u32;
 type Restore = unsafe extern "C" fn(*mut u16, usize, *const u8, usize, *mut i64) -> u32;
+type Move = unsafe extern "C" fn(*const u8, usize, *mut u8, usize, *mut i64) -> u32;
 type Index = unsafe extern "C" fn(*const u16, usize, *mut u16, usize, *mut i64) -> u32;
 type Find = unsafe extern "C" fn(*const u16, usize, *const u16, usize, u64, *mut i64) -> u32;
 
@@ -64,6 +66,34 @@ extern "C" {
         words: usize,
         file: *const u8,
         bytes: usize,
+        value: *mut i64,
+    ) -> u32;
+    fn filz_write_second(
+        ws: *const u16,
+        words: usize,
+        out: *mut u8,
+        bytes: usize,
+        value: *mut i64,
+    ) -> u32;
+    fn filz_read_second(
+        ws: *mut u16,
+        words: usize,
+        file: *const u8,
+        bytes: usize,
+        value: *mut i64,
+    ) -> u32;
+    fn filz_move_first(
+        file: *const u8,
+        bytes: usize,
+        out: *mut u8,
+        room: usize,
+        value: *mut i64,
+    ) -> u32;
+    fn filz_move_second(
+        file: *const u8,
+        bytes: usize,
+        out: *mut u8,
+        room: usize,
         value: *mut i64,
     ) -> u32;
     fn filz_index_build(
@@ -120,6 +150,10 @@ pub struct Station {
     write_first: Write,
     /// Builds from before there were these calls have none.
     read_first: Option<Restore>,
+    write_second: Option<Write>,
+    read_second: Option<Restore>,
+    move_first: Option<Move>,
+    move_second: Option<Move>,
     index_build: Option<Index>,
     index_enter: Option<Index>,
     index_find: Option<Find>,
@@ -137,6 +171,10 @@ pub const LINKED: Station = Station {
     size: filz_size,
     write_first: filz_write_first,
     read_first: Some(filz_read_first),
+    write_second: Some(filz_write_second),
+    read_second: Some(filz_read_second),
+    move_first: Some(filz_move_first),
+    move_second: Some(filz_move_second),
     index_build: Some(filz_index_build),
     index_enter: Some(filz_index_enter),
     index_find: Some(filz_index_find),
@@ -164,6 +202,10 @@ impl Station {
                 size: function(library, "filz_size")?,
                 write_first: function(library, "filz_write_first")?,
                 read_first: function(library, "filz_read_first").ok(),
+                write_second: function(library, "filz_write_second").ok(),
+                read_second: function(library, "filz_read_second").ok(),
+                move_first: function(library, "filz_move_first").ok(),
+                move_second: function(library, "filz_move_second").ok(),
                 index_build: function(library, "filz_index_build").ok(),
                 index_enter: function(library, "filz_index_enter").ok(),
                 index_find: function(library, "filz_index_find").ok(),
@@ -241,7 +283,7 @@ unsafe fn function<F>(library: *mut c_void, name: &str) -> Result<F, String> {
 
 impl Face for Station {
     fn call(&self, ws: &mut [u16], beside: Beside, call: &Call) -> Answer {
-        let Beside { bytes, cells } = beside;
+        let Beside { file, out, cells } = beside;
         let words = ws.len();
         let known = "it has this kind of call";
         let mut value = UNWRITTEN;
@@ -299,22 +341,30 @@ impl Face for Station {
                     };
                     read(ws.as_ptr(), words, *name, &mut value)
                 }
-                Call::WriteFirst(_) => (self.write_first)(
-                    ws.as_ptr(),
-                    words,
-                    bytes.as_mut_ptr(),
-                    bytes.len(),
-                    &mut value,
-                ),
-                Call::ReadFirst(_) => {
-                    let read_first = self.read_first.expect(known);
-                    read_first(
-                        ws.as_mut_ptr(),
-                        words,
-                        bytes.as_ptr(),
-                        bytes.len(),
-                        &mut value,
-                    )
+                Call::WriteFile(form, _) => {
+                    let write = match form {
+                        Form::First => Some(self.write_first),
+                        Form::Second => self.write_second,
+                    };
+                    let (bytes, room) = (out.as_mut_ptr(), out.len());
+                    write.expect(known)(ws.as_ptr(), words, bytes, room, &mut value)
+                }
+                Call::ReadFile(form, _) => {
+                    let read = match form {
+                        Form::First => self.read_first,
+                        Form::Second => self.read_second,
+                    };
+                    let (bytes, length) = (file.as_ptr(), file.len());
+                    read.expect(known)(ws.as_mut_ptr(), words, bytes, length, &mut value)
+                }
+                Call::MoveFile(form, ..) => {
+                    let change = match form {
+                        Form::First => self.move_first,
+                        Form::Second => self.move_second,
+                    };
+                    let (bytes, length) = (file.as_ptr(), file.len());
+                    let (to, room) = (out.as_mut_ptr(), out.len());
+                    change.expect(known)(bytes, length, to, room, &mut value)
                 }
                 Call::Index(Indexing::Find(name), _) => {
                     let find = self.index_find.expect(known);
@@ -349,6 +399,10 @@ impl Face for Station {
     fn has(&self, kind: &str) -> bool {
         match kind {
             "read_first" => self.read_first.is_some(),
+            "write_second" => self.write_second.is_some(),
+            "read_second" => self.read_second.is_some(),
+            "move_first" => self.move_first.is_some(),
+            "move_second" => self.move_second.is_some(),
             "index_build" => self.index_build.is_some(),
             "index_enter" => self.index_enter.is_some(),
             "index_find" => self.index_find.is_some(),

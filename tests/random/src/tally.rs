@@ -8,12 +8,14 @@ use crate::events::{Moment, EVENTS, UNREACHED_EVENTS};
 use crate::fault::Fault;
 use crate::file;
 use crate::made::Verdict;
+use crate::moved::moved;
 use crate::probed::{Probe, LENGTHS, PROBES};
-use crate::written::{FILES, ROOMS};
+use crate::written::{FILES, MARKS, ROOMS};
 use second::codec::ledger_of;
-use second::day::{LONGEST_FILE, SHORTEST_FILE};
+use second::form::Form;
 use second::index::CELLS;
 use second::layout::{BOOKINGS, SLOTS};
+use second::ledger::Ledger;
 use second::refusal::Refusal;
 use second::sound::{Broken, Damage, Place};
 use second::words::Answer;
@@ -40,11 +42,14 @@ impl Tally {
         self.calls += 1;
         let (number, value) = answer;
         let kind = call.kind();
-        if let Call::WriteFirst(buffer) = call {
-            self.add_write(*buffer, number, before);
+        if let Call::WriteFile(form, buffer) = call {
+            self.add_write(*form, *buffer, number, before);
         }
-        if let Call::ReadFirst(file) = call {
-            self.add_read(file, number, before, after);
+        if let Call::ReadFile(form, file) = call {
+            self.add_read(*form, file, number, before, after);
+        }
+        if let Call::MoveFile(..) = call {
+            self.add_move(call, number);
         }
         if let Call::Index(asked, cells) = call {
             self.add_index(*asked, cells, answer, before);
@@ -68,7 +73,9 @@ impl Tally {
             }
             return;
         }
-        self.add(taken(kind));
+        if !matches!(call, Call::MoveFile(..)) {
+            self.add(taken(kind));
+        }
         match (call, before) {
             (Call::Poll { votes, .. }, Ok(ledger)) => {
                 let yes = votes.iter().filter(|&&byte| byte == 1).count();
@@ -92,31 +99,47 @@ impl Tally {
 
     /// Counts how much room a file had, and what was in it. Of words that
     /// have no file it is counted whether any could have been written.
-    fn add_write(&mut self, buffer: Buffer, number: u32, before: &Verdict) {
+    fn add_write(&mut self, form: Form, buffer: Buffer, number: u32, before: &Verdict) {
         let Ok(ledger) = before else {
-            if buffer.room < SHORTEST_FILE {
+            if buffer.room < form.shortest() {
                 self.add(hides_short_buffer(number));
-            } else if buffer.room >= LONGEST_FILE {
+            } else if buffer.room >= form.longest() {
                 self.add(keeps_long_buffer(number));
             }
             return;
         };
+        self.add_room(writes(form), buffer.room, form, file::length(ledger, form));
+        if number == 0 {
+            self.add_contents(form, ledger, "");
+        }
+    }
+
+    /// Counts how much room a call had for a file.
+    fn add_room(&mut self, kind: &str, room: usize, form: Form, length: usize) {
         for (case, is_met) in ROOMS {
-            if is_met(buffer.room, file::length(ledger)) {
-                self.add(case);
+            if is_met(room, form, length) {
+                self.add(for_room(kind, case));
             }
         }
-        for (case, is_met) in FILES {
-            if number == 0 && is_met(ledger) {
-                self.add(case);
+    }
+
+    /// Counts what was in a file that was written, or read.
+    fn add_contents(&mut self, form: Form, ledger: &Ledger, how: &str) {
+        let marks = match form {
+            Form::First => &[][..],
+            Form::Second => &MARKS,
+        };
+        for (case, is_met) in FILES.iter().chain(marks) {
+            if is_met(ledger) {
+                self.add(format!("{how}{case}"));
             }
         }
     }
 
     /// Counts what was in a file that was read, or why it was bad, and what
     /// words it was read into.
-    fn add_read(&mut self, file: &[u8], number: u32, before: &Verdict, after: &[u16]) {
-        let fault = Fault::of(file);
+    fn add_read(&mut self, form: Form, file: &[u8], number: u32, before: &Verdict, after: &[u16]) {
+        let fault = Fault::of(file, form);
         self.add(match (number, fault, before) {
             (1, Some(_), _) => HIDES_BAD_FILE,
             (1, None, _) => KEEPS_GOOD_FILE,
@@ -128,14 +151,36 @@ impl Tally {
         if let Some(fault) = fault {
             self.add(bad_for(fault));
         }
-        if number != 0 {
-            return;
+        if number == 0 {
+            self.add_contents(form, &ledger_of(after), READ);
         }
-        let ledger = ledger_of(after);
-        for (case, is_met) in FILES {
-            if is_met(&ledger) {
-                self.add(read(case));
+    }
+
+    /// Counts why a file was not moved, or how much room it had; and which
+    /// refusal came before another.
+    pub fn add_move(&mut self, call: &Call, number: u32) {
+        let Call::MoveFile(form, file, buffer) = call else {
+            unreachable!("it is a move");
+        };
+        let (kind, to, room) = (call.kind(), form.other(), buffer.room);
+        if number != 0 {
+            self.add(answered(kind, number));
+        } else {
+            self.add(taken(kind));
+        }
+        let fault = Fault::of(file, *form);
+        if let Some(fault) = fault {
+            self.add(bad_for(fault));
+            self.add(unmoved(fault));
+            if fault.is_of_marks() {
+                self.add(HIDES_OTHER_MARKS);
             }
+        }
+        match moved(*form, file) {
+            Ok(moved) => self.add_room(kind, room, to, moved.len()),
+            Err(_) if room < to.shortest() => self.add(hides_short_move(kind, number)),
+            Err(_) if room >= to.longest() => self.add(keeps_long_move(kind, number)),
+            Err(_) => (),
         }
     }
 
@@ -211,9 +256,15 @@ impl Tally {
         let damages = Kind::all().map(done);
         let damaged = [1, 2, 14, 15].into_iter();
         let cases = (CASES.into_iter().map(|(case, _)| case.to_string()))
-            .chain(ROOMS.into_iter().map(|(case, _)| case.to_string()))
-            .chain(FILES.into_iter().map(|(case, _)| case.to_string()))
-            .chain(FILES.into_iter().map(|(case, _)| read(case)))
+            .chain(
+                (Form::ALL.into_iter())
+                    .flat_map(|form| ROOMS.map(|(case, _)| for_room(writes(form), case))),
+            )
+            .chain(["", READ].into_iter().flat_map(|how| {
+                let cases = FILES.into_iter().chain(MARKS);
+                cases.map(move |(case, _)| format!("{how}{case}"))
+            }))
+            .chain(moves())
             .chain(EVENTS.into_iter().map(|(event, _)| event.to_string()))
             .chain(EDITIONS.into_iter().map(|(event, _)| event.to_string()))
             .chain(
@@ -310,6 +361,7 @@ const GOOD_ON_SOUND: &str = "a good file into sound words";
 const GOOD_ON_DAMAGED: &str = "a good file into damaged words";
 const BAD_ON_SOUND: &str = "a bad file and sound words";
 const BAD_ON_DAMAGED: &str = "a bad file and damaged words";
+const HIDES_OTHER_MARKS: &str = "17 for marks, and 19 might be";
 const HIDES_OTHER_INDEX: &str = "1 hides 18";
 const OTHER_INDEX_ON_SOUND: &str = "18 on sound words";
 
@@ -349,13 +401,58 @@ fn answered(kind: &str, number: u32) -> String {
     format!("{kind} answered {number:>2}")
 }
 
-/// A case of a file that was written, for one that was read.
-fn read(case: &str) -> String {
-    format!("read {case}")
+/// Before a case of a file that was written, for one that was read.
+const READ: &str = "read ";
+
+/// A case of room, for one kind of call.
+fn for_room(kind: &str, case: &str) -> String {
+    format!("{kind} {case}")
 }
 
-pub fn bad_for(fault: Fault) -> String {
+fn writes(form: Form) -> &'static str {
+    match form {
+        Form::First => "write_first",
+        Form::Second => "write_second",
+    }
+}
+
+pub fn unmoved(fault: Fault) -> String {
+    format!("not moved: {fault:?}")
+}
+
+fn hides_short_move(kind: &str, number: u32) -> String {
+    format!("{kind}: {number} hides 16")
+}
+
+fn keeps_long_move(kind: &str, number: u32) -> String {
+    format!("{kind}: {number} with room for any file")
+}
+
+/// What has to be reached of moves, but for the faults of files.
+pub fn moves() -> impl Iterator<Item = String> {
+    let kinds = [("move_first", &[17][..]), ("move_second", &[17, 19])];
+    let each = kinds.into_iter().flat_map(|(kind, numbers)| {
+        let rooms = ROOMS.map(|(case, _)| for_room(kind, case));
+        let refusals = numbers.iter().flat_map(move |&number| {
+            [
+                answered(kind, number),
+                hides_short_move(kind, number),
+                keeps_long_move(kind, number),
+            ]
+        });
+        let own = [taken(kind), answered(kind, 16)];
+        rooms.into_iter().chain(refusals).chain(own)
+    });
+    each.chain([HIDES_OTHER_MARKS.to_string()])
+}
+
+/// A file that was bad, whatever was to be done with it.
+fn bad_for(fault: Fault) -> String {
     format!("bad file: {fault:?}")
+}
+
+pub fn unread(fault: Fault) -> String {
+    format!("not read: {fault:?}")
 }
 
 /// A name, and whether damage is a case of it.
@@ -476,7 +573,6 @@ mod tests {
     use super::*;
     use crate::grow::words_of;
     use second::index::EMPTY;
-    use second::ledger::Ledger;
     use second::setting::Setting;
     use Place::*;
 
@@ -643,13 +739,13 @@ mod tests {
                 14,
                 (0, 14),
                 ledger(),
-                &["room: just enough", "file: the genesis alone"],
+                &["write_first room: just enough", "file: the genesis alone"],
             ),
             (
                 13,
                 (16, 0),
                 ledger(),
-                &["refusal 16", "room: one byte too little"],
+                &["refusal 16", "write_first room: one byte too little"],
             ),
             (13, (2, 0), damage(), &["refusal  2", "2 hides 16"]),
             (12_267, (2, 0), damage(), &[]),
@@ -660,7 +756,7 @@ mod tests {
             for what in reached {
                 assert!(is_missing(&tally, what), "{what}");
             }
-            let call = Call::WriteFirst(Buffer { room, seed: 0 });
+            let call = Call::WriteFile(Form::First, Buffer { room, seed: 0 });
             tally.add_call(&call, answer, &before, &[]);
             for what in reached {
                 assert!(!is_missing(&tally, what), "{what}");
@@ -702,7 +798,7 @@ mod tests {
             for what in reached {
                 assert!(is_missing(&tally, what), "{what}");
             }
-            let call = Call::ReadFirst(file.to_vec());
+            let call = Call::ReadFile(Form::First, file.to_vec());
             tally.add_call(&call, answer, &before, &words_of(&opened()));
             for what in reached {
                 assert!(!is_missing(&tally, what), "{what}");
@@ -714,12 +810,99 @@ mod tests {
             "bad file: Outcome",
             "read file: the longest",
             "14 with room for any file",
-            "room: none",
+            "write_first room: none",
+            "write_second room: just enough",
             "file: the longest",
+            "marks: somebody",
+            "read marks: somebody",
         ] {
             assert!(is_missing(&tally, what), "{what}");
         }
     }
+
+    /// The same of a move: why there was none, and how much room there was.
+    #[test]
+    fn what_was_not_moved_is_missing() {
+        const FIRST: [u8; 14] = [0, 4, 0, 3, 0, 2, 0, 1, 0, 2, 0, 0, 0, 0];
+        let second = |marks: &[u8]| [&FIRST[..], marks].concat();
+        type Step = (Form, Vec<u8>, usize, Answer, &'static [&'static str]);
+        let steps: [Step; 6] = [
+            (
+                Form::First,
+                FIRST.to_vec(),
+                18,
+                (0, 18),
+                &["move_first taken", "move_first room: just enough"],
+            ),
+            (
+                Form::First,
+                FIRST.to_vec(),
+                17,
+                (16, 0),
+                &[
+                    "move_first answered 16",
+                    "move_first room: one byte too little",
+                ],
+            ),
+            (
+                Form::First,
+                FIRST[..13].to_vec(),
+                17,
+                (17, 0),
+                &["move_first: 17 hides 16", "move_first answered 17"],
+            ),
+            (
+                Form::Second,
+                second(&[0, 1, 0, 0]),
+                14,
+                (0, 14),
+                &["move_second taken", "move_second room: just enough"],
+            ),
+            (
+                Form::Second,
+                second(&[0, 0]),
+                12_268,
+                (17, 0),
+                &[
+                    "move_second: 17 with room for any file",
+                    "17 for marks, and 19 might be",
+                ],
+            ),
+            // Booking 1 is marked, and no poll was made.
+            (
+                Form::Second,
+                [
+                    &FIRST[..10],
+                    &[0, 1, 0, 0, 0, 0, 0, 0, 0, 1, 0, 7, 0, 1, 0, 0, 0, 0],
+                    &[0, 2, 0, 0, 0, 1],
+                ]
+                .concat(),
+                13,
+                (19, 0),
+                &["move_second: 19 hides 16", "move_second answered 19"],
+            ),
+        ];
+        let mut tally = Tally::default();
+        for (form, file, room, answer, reached) in steps {
+            for what in reached {
+                assert!(is_missing(&tally, what), "{what}");
+            }
+            let call = Call::MoveFile(form, file, Buffer { room, seed: 0 });
+            tally.add_call(&call, answer, &Err(Damage::default()), &[]);
+            for what in reached {
+                assert!(!is_missing(&tally, what), "{what}");
+            }
+        }
+        for what in [
+            "move_first room: none",
+            "move_second: 17 hides 16",
+            "move_second: 19 with room for any file",
+            "move_second answered 16",
+        ] {
+            assert!(is_missing(&tally, what), "{what}");
+        }
+    }
+
     /// The same of an index: what was tried of it, its length, and which
     /// refusal came before or after.
     #[test]

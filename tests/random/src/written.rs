@@ -2,34 +2,40 @@
 //! what was in them.
 
 use crate::file;
-use second::day::{EDITION_BYTES, LONGEST_FILE, SHORTEST_FILE};
+use second::day::{EDITION_BYTES, LONGEST_FILE};
+use second::form::Form;
 use second::layout::{BOOKINGS, PARENTS};
 use second::ledger::{Booking, Ledger, State};
 use std::collections::BTreeSet;
 
-/// A name, and whether a room for a file of some length is a case of it.
-pub type Room = (&'static str, fn(usize, usize) -> bool);
+/// A name, and whether a room for a file of a form and of some length is a
+/// case of it.
+pub type Room = (&'static str, fn(usize, Form, usize) -> bool);
 
 /// The room that a file had.
 pub const ROOMS: [Room; 10] = [
-    ("room: none", |room, _| room == 0),
-    ("room: 1 byte", |room, _| room == 1),
-    ("room: one byte less than for any file", |room, _| {
-        room + 1 == SHORTEST_FILE
+    ("room: none", |room, _, _| room == 0),
+    ("room: 1 byte", |room, _, _| room == 1),
+    ("room: one byte less than for any file", |room, form, _| {
+        room + 1 == form.shortest()
     }),
-    ("room: for a part of the file", |room, length| {
-        SHORTEST_FILE <= room && room + 1 < length
+    ("room: for a part of the file", |room, form, length| {
+        form.shortest() <= room && room + 1 < length
     }),
-    ("room: one byte too little", |room, length| {
+    ("room: one byte too little", |room, _, length| {
         room + 1 == length
     }),
-    ("room: just enough", |room, length| room == length),
-    ("room: one byte to spare", |room, length| room == length + 1),
-    ("room: much to spare", |room, length| room > length + 1),
-    ("room: for the longest file", |room, _| room == LONGEST_FILE),
+    ("room: just enough", |room, _, length| room == length),
+    ("room: one byte to spare", |room, _, length| {
+        room == length + 1
+    }),
+    ("room: much to spare", |room, _, length| room > length + 1),
+    ("room: for the longest file", |room, form, _| {
+        room == form.longest()
+    }),
     (
         "room: enough, and too little by its low bits",
-        |room, length| room >= length && room % 65_536 < length,
+        |room, _, length| room >= length && room % 65_536 < length,
     ),
 ];
 
@@ -45,10 +51,11 @@ pub const FILES: [File; 17] = [
         ledger.bookings.len() == BOOKINGS
     }),
     ("file: the longest", |ledger| {
-        file::length(ledger) == LONGEST_FILE
+        file::length(ledger, Form::First) == LONGEST_FILE
     }),
     ("file: the longest of the first edition", |ledger| {
-        file::length(ledger) == LONGEST_FILE - EDITION_BYTES && !ledger.setting.is_later()
+        file::length(ledger, Form::First) == LONGEST_FILE - EDITION_BYTES
+            && !ledger.setting.is_later()
     }),
     ("file: the first edition", |ledger| {
         !ledger.setting.is_later()
@@ -96,6 +103,34 @@ pub const FILES: [File; 17] = [
     }),
 ];
 
+/// What a second form told of marks.
+pub const MARKS: [File; 7] = [
+    ("marks: the genesis alone, of several", |ledger| {
+        ledger.bookings.len() > 1 && !has(ledger, |booking| booking.is_marked)
+    }),
+    ("marks: somebody", |ledger| {
+        has(ledger, |booking| booking.is_marked)
+    }),
+    ("marks: everybody, of several", |ledger| {
+        ledger.bookings.len() > 1 && ledger.bookings.iter().all(|booking| booking.is_marked)
+    }),
+    ("marks: one of each slot, with rivals", |ledger| {
+        let marked = ledger.marked().len();
+        marked == ledger.slots.len() && marked < ledger.bookings.len()
+    }),
+    ("marks: the newest", |ledger| {
+        ledger.bookings.len() > 1 && ledger.bookings.iter().last().is_some_and(|b| b.is_marked)
+    }),
+    ("marks: a number above 255", |ledger| {
+        ledger.bookings.iter().skip(256).any(|b| b.is_marked)
+    }),
+    ("marks: one without a chit", |ledger| {
+        has(ledger, |booking| {
+            booking.is_marked && booking.confidence == 0
+        })
+    }),
+];
+
 /// Is there such a booking beside the genesis?
 fn has(ledger: &Ledger, is_meant: impl Fn(&Booking) -> bool) -> bool {
     ledger.bookings.iter().skip(1).any(is_meant)
@@ -114,12 +149,30 @@ mod tests {
 
     #[test]
     fn each_room_is_what_its_name_says() {
-        let meets = |room: usize, length: usize, cases: &[&'static str]| {
-            let met = ROOMS.iter().filter(|(_, is_met)| is_met(room, length));
+        let meets_in = |form, room: usize, length: usize, cases: &[&'static str]| {
+            let met = ROOMS
+                .iter()
+                .filter(|(_, is_met)| is_met(room, form, length));
             let met: Vec<&str> = met.map(|(case, _)| *case).collect();
             assert_eq!(met, cases, "{room} for {length}");
             met
         };
+        let meets =
+            |room, length, cases: &[&'static str]| meets_in(Form::First, room, length, cases);
+        meets_in(Form::Second, 13, 92, &[]);
+        meets_in(
+            Form::Second,
+            17,
+            92,
+            &["room: one byte less than for any file"],
+        );
+        meets_in(Form::Second, 18, 92, &["room: for a part of the file"]);
+        meets_in(
+            Form::Second,
+            12_782,
+            92,
+            &["room: much to spare", "room: for the longest file"],
+        );
         let met = [
             meets(0, 88, &["room: none"]),
             meets(1, 88, &["room: 1 byte"]),
@@ -162,6 +215,64 @@ mod tests {
             meets(65_536 + 88, 88, &["room: much to spare"]),
         ];
         for (case, _) in ROOMS {
+            assert!(met.iter().flatten().any(|met| *met == case), "{case}");
+        }
+    }
+
+    /// Booking 1 in slot 7, 2 in slot 7 and 3 in slot 8; nobody has a chit.
+    #[test]
+    fn each_case_of_marks_is_what_its_name_says() {
+        let mut ledger = Ledger::open(Setting::PAPER).expect("it is good");
+        let meets = |ledger: &Ledger, marks: &[usize], cases: &[&'static str]| {
+            let mut ledger = ledger.clone();
+            for (b, booking) in ledger.bookings.iter_mut().enumerate() {
+                booking.is_marked = marks.contains(&b);
+            }
+            let met = MARKS.iter().filter(|(_, is_met)| is_met(&ledger));
+            let met: Vec<&str> = met.map(|(case, _)| *case).collect();
+            assert_eq!(met, cases, "{marks:?}");
+            met
+        };
+        meets(&ledger, &[0], &[]);
+        ledger.book(1, 7, &[0]).expect("it is taken");
+        let chit = "marks: one without a chit";
+        let mut met = vec![meets(
+            &ledger,
+            &[0, 1],
+            &[
+                "marks: somebody",
+                "marks: everybody, of several",
+                "marks: the newest",
+                chit,
+            ],
+        )];
+        ledger.book(2, 7, &[0]).expect("it is taken");
+        ledger.book(3, 8, &[0]).expect("it is taken");
+        met.push(meets(
+            &ledger,
+            &[0],
+            &["marks: the genesis alone, of several"],
+        ));
+        met.push(meets(&ledger, &[0, 2], &["marks: somebody", chit]));
+        met.push(meets(
+            &ledger,
+            &[0, 2, 3],
+            &[
+                "marks: somebody",
+                "marks: one of each slot, with rivals",
+                "marks: the newest",
+                chit,
+            ],
+        ));
+        ledger.bookings[2].confidence = 1;
+        meets(&ledger, &[0, 2], &["marks: somebody"]);
+        for name in 4..300 {
+            ledger.book(name, 9, &[0]).expect("it is taken");
+        }
+        meets(&ledger, &[0, 255], &["marks: somebody", chit]);
+        let above = ["marks: somebody", "marks: a number above 255", chit];
+        met.push(meets(&ledger, &[0, 256], &above));
+        for (case, _) in MARKS {
             assert!(met.iter().flatten().any(|met| *met == case), "{case}");
         }
     }

@@ -6,16 +6,17 @@
 //! section is the number of its items and the items. So a count is never
 //! taken from the header.
 
+use crate::form::Form;
 use crate::ledger::{Ledger, State, GENESIS};
 use crate::setting::Setting;
 use std::collections::BTreeMap;
 
-/// The file of the genesis alone, in the first edition: the setting after its
-/// count, and two counts of nothing.
+/// The first form of the genesis alone, in the first edition: the setting after
+/// its count, and two counts of nothing.
 pub const SHORTEST_FILE: usize = 14;
-/// The file of a full ledger of the later edition where every booking was
-/// polled and has four parents, but for numbers 1, 2 and 3, below which there
-/// are not so many.
+/// The first form of a full ledger of the later edition where every booking
+/// was polled and has four parents, but for numbers 1, 2 and 3, below which
+/// there are not so many.
 pub const LONGEST_FILE: usize = 12_268;
 /// What the later edition adds to a file.
 pub const EDITION_BYTES: usize = 2;
@@ -28,6 +29,9 @@ pub struct Day {
     pub bookings: Vec<Booked>,
     /// Every poll by its ordinal.
     pub polls: BTreeMap<u16, Polled>,
+    /// Numbers of the marked bookings, in rising order, where the form tells
+    /// them.
+    pub marks: Option<Vec<usize>>,
 }
 
 #[derive(Clone, Debug, PartialEq, Eq)]
@@ -46,11 +50,16 @@ pub struct Polled {
 }
 
 impl Day {
-    pub fn of(ledger: &Ledger) -> Day {
+    /// What a file of this form carries of a ledger.
+    pub fn of(ledger: &Ledger, form: Form) -> Day {
         let mut day = Day {
             setting: ledger.setting,
             bookings: Vec::new(),
             polls: BTreeMap::new(),
+            marks: match form {
+                Form::First => None,
+                Form::Second => Some(ledger.marked()),
+            },
         };
         for (number, booking) in ledger.bookings.iter().enumerate() {
             // It is in every ledger, and its state is that of no poll.
@@ -92,14 +101,19 @@ impl Day {
         numbers
     }
 
-    /// The bytes of the file, first form.
+    /// The bytes of the file.
     pub fn file(&self) -> Vec<u8> {
         let setting: Vec<_> = (self.setting_numbers().into_iter())
             .map(|n| number(n.into()).to_vec())
             .collect();
         let bookings: Vec<_> = self.bookings.iter().map(Booked::bytes).collect();
         let polls: Vec<_> = self.polls.values().map(Polled::bytes).collect();
-        [section(&setting), section(&bookings), section(&polls)].concat()
+        let mut sections = vec![section(&setting), section(&bookings), section(&polls)];
+        if let Some(marks) = &self.marks {
+            let marks: Vec<_> = marks.iter().map(|&b| number(b).to_vec()).collect();
+            sections.push(section(&marks));
+        }
+        sections.concat()
     }
 }
 

@@ -47,9 +47,9 @@ pub enum Law {
     Preferred,
     /// A slot has at most one accepted booking.
     AcceptedOnce,
-    /// More than β1 chits are built on an accepted booking, the genesis
-    /// apart, or in the later edition β1 of them: no counter is enough for β1
-    /// by less.
+    /// More than β1 chits are built on an accepted booking, the genesis and
+    /// those apart that a file told as marked, or in the later edition β1 of
+    /// them: no counter is enough for β1 by less.
     AcceptedByChits,
     /// Who is accepted stays so until a taken opening or reading.
     AcceptedStays,
@@ -96,8 +96,10 @@ pub struct History {
     polls: usize,
     /// Bookings of successful polls.
     chits: Vec<usize>,
-    /// Those that a picture has shown accepted.
+    /// Those that a picture has shown accepted, or a file told as marked.
     accepted: HashSet<usize>,
+    /// Those that need not have earned it: the genesis, and whom a file told.
+    given: HashSet<usize>,
 }
 
 impl History {
@@ -106,6 +108,7 @@ impl History {
         *self = History {
             needed: usize::from(setting.a),
             least_chits: setting.beta1 + 1 - setting.edition,
+            given: HashSet::from([GENESIS]),
             ..History::default()
         };
         self.add(0, 0, HashSet::new());
@@ -120,6 +123,10 @@ impl History {
         }
         for polled in day.polls.values() {
             self.add_poll(polled.booking, polled.is_success);
+        }
+        for &b in day.marks.iter().flatten() {
+            self.given.insert(b);
+            self.accepted.insert(b);
         }
     }
 
@@ -203,7 +210,7 @@ impl History {
     fn check_accepted(&mut self, rows: &[Row]) -> Result<(), Breach> {
         let accepted = rows.iter().enumerate().filter(|(_, row)| row.is_accepted);
         let accepted: HashSet<usize> = accepted.map(|(b, _)| b).collect();
-        for &b in accepted.iter().filter(|&&b| b != GENESIS) {
+        for &b in accepted.difference(&self.given) {
             let confidence = rows[b].confidence;
             holds(confidence >= self.least_chits, Law::AcceptedByChits, || {
                 format!("booking {b} is accepted with {confidence} chits built on it")

@@ -323,6 +323,12 @@ impl Ledger {
         own || alone && parents.all(|&parent| self.bookings[parent].is_marked)
     }
 
+    /// Who has a mark, in rising number.
+    pub fn marked(&self) -> Vec<usize> {
+        let numbers = 0..self.bookings.len();
+        numbers.filter(|&b| self.bookings[b].is_marked).collect()
+    }
+
     pub fn has_marked_rival(&self, b: usize) -> bool {
         let mut bookings = self.slot_of(b).bookings.iter();
         bookings.any(|&rival| rival != b && self.bookings[rival].is_marked)

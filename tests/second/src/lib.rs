@@ -10,6 +10,7 @@
 //! - `ledger`: the rules of the vote, on maps
 //! - `sound`: which sentences of soundness words break, and at which row
 //! - `codec`: words to a ledger and back
+//! - `form`: the two forms of the day file
 //! - `day`: what a day file carries, and its bytes
 //! - `parse`: the bytes back to a day
 //! - `replay`: the ledger that a day leads to
@@ -26,6 +27,7 @@ pub mod command;
 pub mod console;
 pub mod counting;
 pub mod day;
+pub mod form;
 pub mod index;
 pub mod laws;
 pub mod layout;

@@ -5,14 +5,20 @@
 //! `replay` to find out.
 
 use crate::day::{Booked, Day, Polled};
+use crate::form::Form;
 use crate::setting::Setting;
 
-/// The day that the bytes say, if they are three sections and nothing more.
-pub fn parse(file: &[u8]) -> Option<Day> {
+/// The day that the bytes say, if they are the sections of the form and
+/// nothing more.
+pub fn parse(file: &[u8], form: Form) -> Option<Day> {
     let mut rest = Rest(file);
     let setting = rest.section(Rest::number)?;
     let bookings = rest.section(Rest::booking)?;
     let polls = rest.section(Rest::poll)?;
+    let marks = match form {
+        Form::First => None,
+        Form::Second => Some(rest.section(Rest::booked)?),
+    };
     let (numbers, edition) = match setting[..] {
         [k, a, beta1, beta2] => ([k, a, beta1, beta2], 0),
         [k, a, beta1, beta2, edition] => ([k, a, beta1, beta2], edition),
@@ -29,6 +35,7 @@ pub fn parse(file: &[u8]) -> Option<Day> {
         },
         bookings,
         polls: (1..).zip(polls).collect(),
+        marks,
     })
 }
 
@@ -46,12 +53,12 @@ impl Rest<'_> {
         Some(Booked {
             name: u64::from_be_bytes(self.bytes()?),
             slot: self.number()?,
-            parents: self.section(|rest| rest.number().map(usize::from))?,
+            parents: self.section(Rest::booked)?,
         })
     }
 
     fn poll(&mut self) -> Option<Polled> {
-        let booking = self.number()?.into();
+        let booking = self.booked()?;
         let is_success = match self.number()? {
             0 => false,
             1 => true,
@@ -61,6 +68,11 @@ impl Rest<'_> {
             booking,
             is_success,
         })
+    }
+
+    /// The number of a booking.
+    fn booked(&mut self) -> Option<usize> {
+        self.number().map(usize::from)
     }
 
     /// Two bytes, the high one first.

@@ -39,6 +39,8 @@ pub enum Refusal {
     File,
     /// The index has another length.
     IndexLength,
+    /// Without its marks the file leads to others.
+    OtherMarks,
     /// No cell of the index is empty.
     IndexFull,
 }
@@ -46,7 +48,7 @@ pub enum Refusal {
 impl Refusal {
     /// Every number that a call may be refused with, in rising order.
     pub fn numbers() -> impl Iterator<Item = u32> {
-        (1..=18).chain([27])
+        (1..=19).chain([27])
     }
 
     pub fn number(self) -> u32 {
@@ -69,6 +71,7 @@ impl Refusal {
             Refusal::Room => 16,
             Refusal::File => 17,
             Refusal::IndexLength => 18,
+            Refusal::OtherMarks => 19,
             Refusal::IndexFull => 27,
         }
     }

@@ -3,10 +3,11 @@
 //! Every call reads the words into a ledger, works there, and writes the
 //! whole ledger back only when it was taken. So a refused call changes none.
 //! Likewise a day file is whole before the first of its bytes is written, and
-//! the ledger that a file leads to before the first word.
+//! the ledger that a file leads to before the first word. A move needs no words.
 
 use crate::codec::{encode, ledger_of};
 use crate::day::Day;
+use crate::form::Form;
 use crate::index::{self, CELLS};
 use crate::layout::WORDS;
 use crate::ledger::{Ledger, Reading};
@@ -105,35 +106,77 @@ pub fn size(ws: &[u16], name: u64) -> Answer {
     read(ws, Reading::Size, name)
 }
 
-/// The day file at the front of the buffer; the value is its length.
 pub fn write_first(ws: &[u16], out: &mut [u8]) -> Answer {
-    answer(load(ws).and_then(|ledger| {
-        let file = Day::of(&ledger).file();
-        let front = out.get_mut(..file.len()).ok_or(Refusal::Room)?;
-        front.copy_from_slice(&file);
-        Ok(file.len() as i64)
-    }))
+    write_file(ws, Form::First, out)
+}
+
+pub fn write_second(ws: &[u16], out: &mut [u8]) -> Answer {
+    write_file(ws, Form::Second, out)
+}
+
+/// The day file at the front of the buffer; the value is its length.
+pub fn write_file(ws: &[u16], form: Form, out: &mut [u8]) -> Answer {
+    answer(load(ws).and_then(|ledger| put(&Day::of(&ledger, form).file(), out)))
+}
+
+fn put(file: &[u8], out: &mut [u8]) -> Result<i64, Refusal> {
+    let front = out.get_mut(..file.len()).ok_or(Refusal::Room)?;
+    front.copy_from_slice(file);
+    Ok(file.len() as i64)
+}
+
+pub fn read_first(ws: &mut [u16], file: &[u8]) -> Answer {
+    read_file(ws, Form::First, file)
+}
+
+pub fn read_second(ws: &mut [u16], file: &[u8]) -> Answer {
+    read_file(ws, Form::Second, file)
 }
 
 /// The words become those of the ledger that the file leads to. As in an
 /// opening, the old words are not looked at.
-pub fn read_first(ws: &mut [u16], file: &[u8]) -> Answer {
+pub fn read_file(ws: &mut [u16], form: Form, file: &[u8]) -> Answer {
     answer((|| {
         if ws.len() != WORDS {
             return Err(Refusal::Length);
         }
-        let ledger = handed_over(file).ok_or(Refusal::File)?;
+        let ledger = handed_over(file, form).ok_or(Refusal::File)?;
         encode(&ledger, ws);
         Ok(0)
     })())
 }
 
+pub fn move_first(file: &[u8], out: &mut [u8]) -> Answer {
+    move_file(Form::First, file, out)
+}
+
+pub fn move_second(file: &[u8], out: &mut [u8]) -> Answer {
+    move_file(Form::Second, file, out)
+}
+
+/// A file of this form as one of the other, at the front of the buffer; the
+/// value is the length there. The first form cannot tell marks that its
+/// reading would not give.
+pub fn move_file(form: Form, file: &[u8], out: &mut [u8]) -> Answer {
+    answer((|| {
+        let ledger = handed_over(file, form).ok_or(Refusal::File)?;
+        let moved = Day::of(&ledger, form.other()).file();
+        if form == Form::Second {
+            let read = handed_over(&moved, Form::First).expect("its sections are good");
+            if read.marked() != ledger.marked() {
+                return Err(Refusal::OtherMarks);
+            }
+        }
+        put(&moved, out)
+    })())
+}
+
 /// The ledger of a file, if a writer could have left it: the day that it says
 /// can be lived through, and its file is this one, to the last byte.
-fn handed_over(file: &[u8]) -> Option<Ledger> {
-    let day = parse(file)?;
+fn handed_over(file: &[u8], form: Form) -> Option<Ledger> {
+    let day = parse(file, form)?;
     let ledger = replay(&day)?;
-    (Day::of(&ledger).file() == file).then_some(ledger)
+    (Day::of(&ledger, form).file() == file).then_some(ledger)
 }
 
 /// The cells become the index of the ledger. What they held is not looked at.

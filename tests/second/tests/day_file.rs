@@ -3,44 +3,22 @@
 
 mod digits;
 mod ledgers;
+mod lent;
 use digits::*;
 use ledgers::*;
+use lent::*;
 use second::day::{LONGEST_FILE, SHORTEST_FILE};
 use second::layout::*;
 use second::words::*;
 
-/// What may stand in a buffer before. No byte is the same in both, so that
-/// one that was not written shows.
-fn fillings(room: usize) -> [Vec<u8>; 2] {
-    let filling: Vec<u8> = (0..room).map(|at| (at * 151 + at / 256) as u8).collect();
-    let other = filling.iter().map(|byte| !byte).collect();
-    [filling, other]
-}
-
-/// A buffer that the file fits into begins with it and is as before behind
-/// it; a shorter one stays as it is.
+/// The file is written where it fits, and a shorter buffer stays as it is.
 fn writes(ws: &[u16], file: &[u8]) {
-    let length = file.len();
-    for room in [length, length + 1, length + 2, 2 * length, 70_000] {
-        for before in fillings(room) {
-            let mut out = before.clone();
-            assert_eq!(write_first(ws, &mut out), (0, length as i64));
-            assert_eq!(out[..length], *file);
-            assert_eq!(out[length..], before[length..]);
-        }
-    }
-    for room in [0, 1, 2, 10, 13, length / 2, length - 2, length - 1] {
-        refuses(ws, room, (16, 0));
-    }
+    fills(file, |out| write_first(ws, out));
 }
 
 /// The call is refused, and every byte stays.
 fn refuses(ws: &[u16], room: usize, answer: Answer) {
-    for before in fillings(room) {
-        let mut out = before.clone();
-        assert_eq!(write_first(ws, &mut out), answer);
-        assert_eq!(out, before);
-    }
+    leaves(room, answer, |out| write_first(ws, out));
 }
 
 /// The file of a ledger, as its three sections.

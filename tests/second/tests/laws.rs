@@ -2,7 +2,10 @@
 
 mod ledgers;
 use ledgers::*;
+use second::codec::ledger_of;
 use second::console;
+use second::day::Day;
+use second::form::Form;
 use second::laws::*;
 use second::layout::*;
 use second::setting::Setting;
@@ -145,6 +148,34 @@ fn who_is_accepted_stays_so() {
     history.polled(2, &[1]);
     assert_eq!(history.check(&lost), Ok(()));
     assert_eq!(history.check(&kept), Ok(()));
+}
+
+/// A file that tells marks gives them to whom it likes, and they stay so too:
+/// here 2, on which one chit is built, and not 1.
+#[test]
+fn who_is_marked_by_a_file_is_accepted() {
+    let ledger = ledger_of(&accepted_1());
+    let mut day = Day::of(&ledger, Form::Second);
+    assert_eq!(day.marks, Some(vec![0, 1]));
+    day.marks = Some(vec![0, 2]);
+    let mut told = picture(&accepted_1());
+    told.rows[1].is_accepted = false;
+    told.rows[2].is_accepted = true;
+    let mut history = History::default();
+    history.handed_over(&day);
+    assert_eq!(history.check(&told), Ok(()));
+    let broken = |day: &Day, told: &Picture| {
+        let mut history = History::default();
+        history.handed_over(day);
+        history.check(told).map_err(|breach| breach.law)
+    };
+    let mut lost = told.clone();
+    lost.rows[2].is_accepted = false;
+    assert_eq!(broken(&day, &lost), Err(Law::AcceptedStays));
+    // The first form tells nobody, and 2 has not earned it.
+    day.marks = None;
+    assert_eq!(broken(&day, &told), Err(Law::AcceptedByChits));
+    assert_eq!(broken(&day, &lost), Ok(()));
 }
 
 /// The laws that a true confidence implies, each by itself.

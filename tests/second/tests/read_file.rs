@@ -8,26 +8,11 @@ use digits::*;
 use ledgers::*;
 use second::codec::decode;
 use second::day::{EDITION_BYTES, LONGEST_FILE, SHORTEST_FILE};
+use second::form::Form;
 use second::laws::{History, Picture};
 use second::layout::*;
 use second::parse::parse;
 use second::words::*;
-
-/// Words of the right length: never used, all alike, a ledger, a ledger with
-/// its header and a record damaged, and as different as words can be.
-fn any_words() -> [Vec<u16>; 5] {
-    let mut damaged = run_polled(4);
-    damaged[N] = 0;
-    damaged[record(3) + PARENT] = 9;
-    let mixed = (0..WORDS).map(|at| (at as u16).wrapping_mul(40503));
-    [
-        vec![0; WORDS],
-        vec![65535; WORDS],
-        chain(512),
-        damaged,
-        mixed.collect(),
-    ]
-}
 
 /// The file makes these words, whatever words it is read into, and is written
 /// again with the same bytes.
@@ -65,7 +50,7 @@ fn taken(file: &[u8]) -> Vec<u16> {
     assert!(decode(&ws).is_ok());
     assert_eq!(written(&ws), file);
     let mut history = History::default();
-    history.handed_over(&parse(file).expect("it was taken"));
+    history.handed_over(&parse(file, Form::First).expect("it was taken"));
     let picture = Picture::of_words(&ws, |name| accepted(&ws, name) == (0, 1));
     assert_eq!(picture, Picture::of_marks(&ws));
     assert_eq!(history.check(&picture), Ok(()));

@@ -1,7 +1,7 @@
 //! Every refusal on both sides of its border, the order of refusals, and
 //! that a refused call changes no word. All have value 0 but 14 and 15, of
 //! which `soundness.rs` and `damage.rs` say more; of the day file's refusals
-//! `day_file.rs` and `read_file.rs` do.
+//! `day_file.rs`, `read_file.rs`, `second_form.rs` and `moves.rs` do.
 
 mod ledgers;
 use ledgers::*;
@@ -268,6 +268,33 @@ fn refusal_17_a_bad_file() {
         answers(&ws, 17, |ws| read_first(ws, &[]));
         answers(&ws[1..], 1, |ws| read_first(ws, &[]));
     }
+}
+
+/// The genesis alone, told as marked and not. A move lends no words.
+#[test]
+fn refusals_of_the_second_form() {
+    let file = [0, 4, 0, 3, 0, 2, 0, 1, 0, 2, 0, 0, 0, 0, 0, 1, 0, 0];
+    let mut other = file;
+    other[17] = 1;
+    for ws in [run_polled(4), vec![0; WORDS]] {
+        answers(&ws, 0, |ws| read_second(ws, &file));
+        answers(&ws, 17, |ws| read_second(ws, &other));
+        answers(&ws, 17, |ws| read_second(ws, &file[..17]));
+        answers(&ws, 17, |ws| read_second(ws, &file[..14]));
+        answers(&ws[1..], 1, |ws| read_second(ws, &[]));
+    }
+    let ws = opened(3, 2, 1, 2);
+    names(&ws, 0, 18, |ws| write_second(ws, &mut [0; 18]));
+    answers(&ws, 16, |ws| write_second(ws, &mut [0; 17]));
+    answers(&vec![0; WORDS], 2, |ws| write_second(ws, &mut []));
+    answers(&ws[1..], 1, |ws| write_second(ws, &mut []));
+    assert_eq!(move_first(&file[..14], &mut [0; 18]), (0, 18));
+    assert_eq!(move_first(&file[..14], &mut [0; 17]), (16, 0));
+    assert_eq!(move_first(&file, &mut [0; 17]), (17, 0));
+    assert_eq!(move_second(&file, &mut [0; 14]), (0, 14));
+    assert_eq!(move_second(&file, &mut [0; 13]), (16, 0));
+    assert_eq!(move_second(&other, &mut [0; 13]), (17, 0));
+    assert_eq!(move_second(&file[..14], &mut [0; 14]), (17, 0));
 }
 
 /// A no takes nothing from the yes votes, and silence is no vote at all.

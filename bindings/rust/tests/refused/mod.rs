@@ -35,21 +35,43 @@ pub fn filled(bytes: usize) -> Vec<u8> {
     (0..bytes).map(|at| (at as u8).wrapping_mul(37)).collect()
 }
 
-/// Writing the day file into so many bytes is refused so, and leaves the bytes alone, and those around them.
+/// A call that writes a file into so many bytes is refused so, and leaves the bytes alone, and those around them.
 #[track_caller]
-pub fn write_refused(refusal: Refusal, ws: &mut [u16], bytes: usize) {
+pub fn room_refused(
+    refusal: Refusal,
+    bytes: usize,
+    call: impl FnOnce(&mut [u8]) -> Result<usize, Refusal>,
+) {
     let before = filled(8 + bytes + 8);
     let mut after = before.clone();
-    refused(refusal, ws, |ws| {
-        write_first(ws, &mut after[8..8 + bytes]).map(drop)
-    });
+    assert_eq!(call(&mut after[8..8 + bytes]), Err(refusal));
     assert_eq!(after, before, "a refused call changed a byte");
 }
 
-/// Reading this file is refused so.
+/// Writing the day file in this form into so many bytes is refused so, and leaves words and bytes alone.
+#[track_caller]
+pub fn form_refused(refusal: Refusal, ws: &mut [u16], form: Form, bytes: usize) {
+    let before = ws.to_vec();
+    room_refused(refusal, bytes, |out| write(ws, form, out));
+    assert_eq!(ws, before, "a refused call changed a word");
+}
+
+/// The same of the first form.
+#[track_caller]
+pub fn write_refused(refusal: Refusal, ws: &mut [u16], bytes: usize) {
+    form_refused(refusal, ws, Form::First, bytes);
+}
+
+/// Reading this file, of the first form, is refused so.
 #[track_caller]
 pub fn read_refused(refusal: Refusal, ws: &mut [u16], file: &[u8]) {
     refused(refusal, ws, |ws| read_first(ws, file));
+}
+
+/// Reading this file in its second form is refused so.
+#[track_caller]
+pub fn marks_refused(refusal: Refusal, ws: &mut [u16], file: &[u8]) {
+    refused(refusal, ws, |ws| read(ws, Form::Second, file));
 }
 
 /// The three calls with an index are refused so, and leave words and cells alone, whatever these hold.
@@ -71,8 +93,9 @@ pub fn all_refused(refusal: Refusal, ws: &mut [u16]) {
     book_refused(refusal, ws, 0, 0, &[]);
     poll_refused(refusal, ws, 9, &[2]);
     readings_refused(refusal, ws, 9);
-    for bytes in [0, FILE_LEAST - 1, FILE_MOST] {
+    for bytes in [0, FILE_LEAST - 1, SECOND_FILE_LEAST - 1, SECOND_FILE_MOST] {
         write_refused(refusal, ws, bytes);
+        form_refused(refusal, ws, Form::Second, bytes);
     }
     index_refused(refusal, ws, CELLS);
     for cells in [0, CELLS - 1, CELLS + 1] {
@@ -84,14 +107,20 @@ pub fn all_refused(refusal: Refusal, ws: &mut [u16]) {
     }
 
     // Of damage reading says nothing: the file alone decides.
-    let file = [0, 4, 0, 3, 0, 2, 0, 1, 0, 2, 0, 0, 0, 0];
+    let second = [0, 4, 0, 3, 0, 2, 0, 1, 0, 2, 0, 0, 0, 0, 0, 1, 0, 0];
+    let first = &second[..FILE_LEAST];
     if refusal == Refusal::WrongLength {
-        read_refused(refusal, ws, &file);
+        read_refused(refusal, ws, first);
         read_refused(refusal, ws, &[]);
+        marks_refused(refusal, ws, &second);
+        marks_refused(refusal, ws, &[]);
     } else {
-        read_refused(Refusal::BadFile, ws, &file[1..]);
-        let mut copy = ws.to_vec();
-        assert_eq!(read_first(&mut copy, &file), Ok(()));
-        assert_eq!(size(&copy, 0), Ok(1));
+        read_refused(Refusal::BadFile, ws, &first[1..]);
+        marks_refused(Refusal::BadFile, ws, &second[1..]);
+        for (form, file) in [(Form::First, first), (Form::Second, &second[..])] {
+            let mut copy = ws.to_vec();
+            assert_eq!(read(&mut copy, form, file), Ok(()));
+            assert_eq!(size(&copy, 0), Ok(1));
+        }
     }
 }

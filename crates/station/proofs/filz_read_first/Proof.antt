@@ -4,8 +4,8 @@ use Rattle.station.proofs.Telling.{left-of}
 use Rattle.station.proofs.filz_read_first.Statement.{statement}
 use Rattle.station.proofs.filz_read_first.Tie as tie
 
-read-first-requires : tie.Need-read-first-requires
-read-first-requires c κs = search needs
+read-file-requires : tie.Need-read-file-requires
+read-file-requires c κs = search needs
 
 tell-requires : tie.Need-tell-requires
 tell-requires c κs = search needs
@@ -14,7 +14,7 @@ same-length : tie.Need-same-length
 same-length c = search needs
 
 left : tie.Need-returns
-left c = left-of (c .before .before .before .before .read-first .ensures) (c .tell .ensures)
+left c = left-of (c .before .before .before .before .read-file .ensures) (c .tell .ensures)
 
 pub filz-read-first-spec : {M : Type 1} → statement M
-filz-read-first-spec = tie.close (tie.spec read-first-requires tell-requires same-length left)
+filz-read-first-spec = tie.close (tie.spec read-file-requires tell-requires same-length left)

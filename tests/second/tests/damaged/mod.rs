@@ -3,7 +3,7 @@
 
 use crate::ledgers::*;
 use second::codec::decode;
-use second::day::{LONGEST_FILE, SHORTEST_FILE};
+use second::form::Form;
 use second::sound::{judge, Broken, Damage, Place};
 use second::words::*;
 
@@ -31,10 +31,12 @@ pub fn refused(number: u32, value: i64, breaches: &[Breach], ws: &[u16]) {
         assert_eq!(reading(&after, 77), answer);
     }
     // Room for any file, for none, and none at all.
-    for room in [LONGEST_FILE, SHORTEST_FILE - 1, 0] {
-        let mut out = vec![0xa5; room];
-        assert_eq!(write_first(&after, &mut out), answer);
-        assert_eq!(out, vec![0xa5; room]);
+    for form in Form::ALL {
+        for room in [form.longest(), form.shortest() - 1, 0] {
+            let mut out = vec![0xa5; room];
+            assert_eq!(write_file(&after, form, &mut out), answer);
+            assert_eq!(out, vec![0xa5; room]);
+        }
     }
     assert_eq!(after, ws);
 

@@ -125,6 +125,22 @@ pub fn longest_in(edition: u16) -> Vec<u16> {
     ws
 }
 
+/// Words of the right length: never used, all alike, a ledger, a ledger with
+/// its header and a record damaged, and as different as words can be.
+pub fn any_words() -> [Vec<u16>; 5] {
+    let mut damaged = run_polled(4);
+    damaged[N] = 0;
+    damaged[record(3) + PARENT] = 9;
+    let mixed = (0..WORDS).map(|at| (at as u16).wrapping_mul(40503));
+    [
+        vec![0; WORDS],
+        vec![65535; WORDS],
+        chain(512),
+        damaged,
+        mixed.collect(),
+    ]
+}
+
 pub fn record_word(ws: &[u16], b: usize, field: usize) -> u16 {
     ws[record(b) + field]
 }

@@ -1,0 +1,2 @@
+-- What the judge of a second-form file promises.
+pub mod Judged

@@ -1,0 +1,2 @@
+-- Laws of a move.
+pub mod Moves

@@ -1,0 +1,2 @@
+-- Laws of a section of marks, cited by the proofs of the functions. They assume nothing.
+pub mod MarksRead

@@ -1,0 +1,2 @@
+-- A section of marks.
+pub mod Section
