@@ -79,6 +79,7 @@ pub fn missing(tally: &Tally) -> Vec<String> {
         Kind::PollDropped,
         Kind::PollsSwapped,
         Kind::MarksOther,
+        Kind::MarkHanded,
         Kind::MarkDropped,
     ];
     let kinds = |form: Form| {
@@ -97,6 +98,7 @@ pub fn missing(tally: &Tally) -> Vec<String> {
         Kind::MarksOther,
         Kind::MarksAll,
         Kind::MarkMore,
+        Kind::MarkHanded,
         Kind::MarkDropped,
     ]
     .map(|kind| format!("{GOOD}{}", label(Form::Second, Some(kind))));
@@ -174,8 +176,13 @@ impl Case {
 }
 
 fn round(prng: &mut Prng, run: usize) -> Vec<Case> {
-    let style = Style::any(prng);
+    let mut style = Style::any(prng);
     let is_long = run % LONG_EVERY == 2;
+    // So few bookings are hardly ever accepted but by low bounds.
+    if !is_long && prng.chance(50) {
+        style.setting.beta1 = 1;
+        style.setting.beta2 = prng.word(1, 2);
+    }
     // full, one less, and the longest, in turn
     let grown = match (is_long, run / LONG_EVERY % 3) {
         (true, 2) => grow_longest(prng, style),

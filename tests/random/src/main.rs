@@ -20,6 +20,10 @@ random calls COUNT [SEED] --copy           a copy of the second one against it
 random files COUNT [SEED] [as for calls]   the same, on day files
 random plant [COUNT] [SEED]                planted errors must be found";
 
+/// A plant is looked for in up to so many times the calls, or the files, that a
+/// run compares: what is drawn is chance, and no verdict may hang on that.
+const PATIENCE: usize = 10;
+
 fn main() -> ExitCode {
     let arguments: Vec<String> = env::args().skip(1).collect();
     let Some(order) = Order::read(&arguments) else {
@@ -166,6 +170,7 @@ impl Order {
             "{:<32} no difference in {count} calls and {count} files",
             "no plant"
         );
+        let most = PATIENCE * self.count;
         let mut unnoticed = Vec::new();
         let mut judge = |plant: String, found: Option<String>| match found {
             Some(how) => println!("{plant:<32} found {how}"),
@@ -176,7 +181,7 @@ impl Order {
         };
         for plant in Plant::all() {
             let planted = Planted(Some(plant));
-            let (tally, difference) = compare::compare(&planted, &Second, self.count, self.seed);
+            let (tally, difference) = compare::compare(&planted, &Second, most, self.seed);
             let found = difference.map(|found| {
                 let what = found.text.lines().nth(1).unwrap_or_default().to_string();
                 format!("after {} calls: {what}", tally.calls)
@@ -185,7 +190,7 @@ impl Order {
         }
         for plant in Plant::of_files() {
             let planted = Planted(Some(plant));
-            let (tally, difference) = files::compare(&planted, &Second, self.count, self.seed);
+            let (tally, difference) = files::compare(&planted, &Second, most, self.seed);
             let found = difference.map(|_| format!("after {} files", tally.calls));
             judge(format!("{plant:?}, files"), found);
         }

@@ -22,6 +22,8 @@ pub enum Kind {
     SettingNumber,
     /// Fewer numbers than four, or more than five.
     SettingLonger,
+    /// The numbers stand, and their count says neither four nor five.
+    SettingCount,
     /// The first edition is told.
     EditionZero,
     /// An edition is told that there is none of.
@@ -43,11 +45,14 @@ pub enum Kind {
     ParentMore,
     ParentFewer,
     ParentRepeated,
+    /// Four are the most.
+    FiveParents,
     BookingMore,
     BookingDropped,
     BookingRepeated,
     BookingsSwapped,
     PollMore,
+    PollOfGenesis,
     PollDropped,
     PollRepeated,
     PollsSwapped,
@@ -66,6 +71,10 @@ pub enum Kind {
     /// One mark, mostly to an end of its range.
     MarkNumber,
     MarkOfRival,
+    /// A rival has it instead.
+    MarkHanded,
+    /// Of a number that no booking has.
+    MarkUnbooked,
     MarkCount,
     // the other form
     OtherForm,
@@ -75,7 +84,7 @@ pub enum Kind {
 }
 
 impl Kind {
-    pub const ALL: [Kind; 47] = [
+    pub const ALL: [Kind; 52] = [
         Kind::ByteChanged,
         Kind::SeveralChanged,
         Kind::BytesSwapped,
@@ -84,6 +93,7 @@ impl Kind {
         Kind::MuchLonger,
         Kind::SettingNumber,
         Kind::SettingLonger,
+        Kind::SettingCount,
         Kind::EditionZero,
         Kind::EditionAbove,
         Kind::EditionUncounted,
@@ -100,11 +110,13 @@ impl Kind {
         Kind::ParentMore,
         Kind::ParentFewer,
         Kind::ParentRepeated,
+        Kind::FiveParents,
         Kind::BookingMore,
         Kind::BookingDropped,
         Kind::BookingRepeated,
         Kind::BookingsSwapped,
         Kind::PollMore,
+        Kind::PollOfGenesis,
         Kind::PollDropped,
         Kind::PollRepeated,
         Kind::PollsSwapped,
@@ -119,6 +131,8 @@ impl Kind {
         Kind::MarksSwapped,
         Kind::MarkNumber,
         Kind::MarkOfRival,
+        Kind::MarkHanded,
+        Kind::MarkUnbooked,
         Kind::MarkCount,
         Kind::OtherForm,
         Kind::RandomBytes,
@@ -143,6 +157,8 @@ impl Kind {
             | Kind::MarksSwapped
             | Kind::MarkNumber
             | Kind::MarkOfRival
+            | Kind::MarkHanded
+            | Kind::MarkUnbooked
             | Kind::MarkCount => true,
             _ => false,
         }
@@ -157,7 +173,9 @@ impl Kind {
             | Kind::Cut
             | Kind::Longer
             | Kind::MuchLonger => self.spoil_bytes(prng, good.bytes()),
-            Kind::Count | Kind::ParentCount | Kind::MarkCount => self.spoil_count(prng, good),
+            Kind::SettingCount | Kind::Count | Kind::ParentCount | Kind::MarkCount => {
+                self.spoil_count(prng, good)
+            }
             Kind::EditionUncounted => {
                 let mut other = good.clone();
                 turn_edition(&mut other, prng.word(0, 2));
@@ -218,11 +236,16 @@ impl Kind {
                 draft.row_at(b) + 10
             }
             Kind::MarkCount => draft.marks_at(),
+            Kind::SettingCount => 0,
             _ => prng.pick(&[0, draft.rows_at(), draft.polls_at()]),
         };
         let mut file = draft.bytes();
         let count = u16::from_be_bytes([file[at], file[at + 1]]);
-        let other = end_of_range(prng, count, &[0, 1, 4, 5, 511, 512]);
+        let other = match self {
+            // Some have the low byte, or the high one, of a count that is right.
+            Kind::SettingCount => prng.pick(&[0, 1, 3, 3, 6, 6, 7, 260, 261, 1024, 1280, 65535]),
+            _ => end_of_range(prng, count, &[0, 1, 4, 5, 511, 512]),
+        };
         file[at..at + 2].copy_from_slice(&other.to_be_bytes());
         file
     }
@@ -268,13 +291,23 @@ impl Kind {
                     poll.booking = end_of_range(prng, poll.booking, &ends);
                 }
             }
-            Kind::PollMore | Kind::PollDropped | Kind::PollRepeated | Kind::PollsSwapped => {
-                self.spoil_polls(prng, draft);
-            }
+            Kind::PollMore
+            | Kind::PollOfGenesis
+            | Kind::PollDropped
+            | Kind::PollRepeated
+            | Kind::PollsSwapped => self.spoil_polls(prng, draft),
             Kind::Overfull => {
                 while draft.rows.len() < BOOKINGS {
                     add_row(prng, draft);
                 }
+            }
+            Kind::FiveParents => {
+                while draft.rows.len() <= PARENTS {
+                    add_row(prng, draft);
+                }
+                let at = prng.between(PARENTS, draft.rows.len() - 1);
+                let lower: Vec<u16> = (0..=at as u16).collect();
+                draft.rows[at].parents = prng.sample(&lower, PARENTS + 1);
             }
             Kind::BookingMore | Kind::BookingDropped | Kind::BookingRepeated => {
                 let at = some_row(prng, draft);
@@ -298,6 +331,17 @@ impl Kind {
         let again = draft.polls[at];
         match self {
             Kind::PollDropped => drop(draft.polls.remove(at)),
+            Kind::PollOfGenesis => {
+                let outcome = prng.word(0, 1);
+                let to = prng.between(0, draft.polls.len());
+                draft.polls.insert(
+                    to,
+                    Poll {
+                        booking: 0,
+                        outcome,
+                    },
+                );
+            }
             Kind::PollsSwapped => {
                 let other = prng.below(draft.polls.len());
                 draft.polls.swap(at, other);
@@ -345,7 +389,7 @@ impl Kind {
                 let ends = [0, 1, n - 1, n - 1, n, n, n, n + 1, 256, 511, 512, 65535];
                 marks[at] = prng.pick(&[&ends[..], &near].concat());
             }
-            Kind::MarkOfRival => {
+            Kind::MarkOfRival | Kind::MarkHanded => {
                 let slot = draft.rows[usize::from(marks[at]) - 1].slot;
                 let mut rivals = (1..n).filter(|b| draft.rows[usize::from(*b) - 1].slot == slot);
                 let rival = rivals.find(|b| !marks.contains(b)).unwrap_or_else(|| {
@@ -353,9 +397,13 @@ impl Kind {
                     draft.rows[usize::from(n) - 1].slot = slot;
                     n
                 });
+                if self == Kind::MarkHanded {
+                    marks.remove(at);
+                }
                 marks.push(rival);
                 marks.sort();
             }
+            Kind::MarkUnbooked => marks.push(prng.pick(&[n, n, n, n + 1, n + 256, 65535])),
             _ => {
                 let unmarked: Vec<u16> = (1..n).filter(|b| !marks.contains(b)).collect();
                 marks.extend(prng.sample(&unmarked, 1));
@@ -510,7 +558,9 @@ fn random_numbers(prng: &mut Prng, good: &Draft) -> Vec<u8> {
     let mut file = good.bytes();
     file.truncate(good.rows_at());
     let most = prng.pick(&[1, 2, 4, 9]);
-    for _ in 0..prng.below(24) {
+    // A handful may be good, more are hardly ever.
+    let length = prng.pick(&[5, 24]);
+    for _ in 0..prng.below(length) {
         file.extend(prng.word(0, most).to_be_bytes());
     }
     file
@@ -538,16 +588,20 @@ mod tests {
             Kind::EditionUncounted,
             Kind::NameOfGenesis,
             Kind::ParentRepeated,
+            Kind::FiveParents,
             Kind::BookingRepeated,
             Kind::PollRepeated,
             Kind::Overfull,
             Kind::SettingLonger,
+            Kind::SettingCount,
+            Kind::PollOfGenesis,
             Kind::RandomBytes,
             Kind::MarksNone,
             Kind::MarkOfGenesisDropped,
             Kind::MarkRepeated,
             Kind::MarksSwapped,
             Kind::MarkOfRival,
+            Kind::MarkUnbooked,
             Kind::OtherForm,
         ];
         let never_bad = [
@@ -556,6 +610,7 @@ mod tests {
             Kind::PollDropped,
             Kind::PollsSwapped,
             Kind::MarksOther,
+            Kind::MarkHanded,
             Kind::MarkDropped,
         ];
         let mut met = BTreeSet::new();
