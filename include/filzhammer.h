@@ -272,11 +272,11 @@ uint32_t filz_write_first(const uint16_t *ws, size_t words, uint8_t *out, size_t
 /*
  * Reads a day file, in its first form, and makes the words the ledger that it tells of, whatever they were before: the one
  * that an opening with its setting, its bookings in their order and then its polls with their outcomes make. The value is 0.
- * Writing after that gives the same bytes. A refused call leaves every word, and no call changes the file.
+ * Writing in this form after that gives the same bytes. A refused call leaves every word, and no call changes the file.
  *
  * The marks too are those of these calls, with every booking made before the first poll. Where the station that wrote the file
  * had polls between its bookings, others may be accepted here: one that was accepted there may not be, and a rival that came
- * after it may be in its stead. Its setting, bookings and polls come back whatever it was.
+ * after it may be in its stead. Its setting, bookings and polls come back in any case.
  *
  * `file` leads to `bytes` bytes, all of them the file's. It overlaps neither the workspace nor the value.
  *

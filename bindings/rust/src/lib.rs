@@ -416,7 +416,8 @@ pub fn query(ws: &[u16], name: u64) -> Result<i64, Refusal> {
 /// that meets a rule becomes accepted if no other of its slot is: it is alone in its slot, its parents are accepted (perhaps
 /// just now) and the slot's counter is above `beta1`; or it is both preferred and last in its slot and the counter is above
 /// `beta2`. With the later [edition](crate#editions) a counter of at least `beta1`, or `beta2`, is enough. It stays accepted
-/// until the next taken [`open`] or [`read`], whoever comes for its slot. Refuses as [`query`] does.
+/// until the next taken [`open`] or [`read`], whoever comes for its slot; a day file of the second [form](Form) that is read
+/// makes those accepted whom it names. Refuses as [`query`] does.
 pub fn accepted(ws: &[u16], name: u64) -> Result<i64, Refusal> {
     face::accepted(ws, name)
 }

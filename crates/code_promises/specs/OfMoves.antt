@@ -83,7 +83,7 @@ module _ {Name : Type 0} (mover : Name → Mover) where
       (d : MoveDone) (e : Done) → MoveMade d → d .number ≡ 0 → Made function e → e .call ≡ ReadFile (d .form) (d .file) → length (e .before) ≡ size
       → (e .number ≡ 0) × Written (fileOf (otherForm (d .form)) (e .after)) (d .before) (d .value) (d .after)
 
-  -- there and back: what a taken move wrote, as many bytes as its value says, moves back to the same bytes wherever there is room. So it is of a file of either form
+  -- there and back: what a taken move wrote, as many bytes as its value says, moves back to the same bytes wherever there is room, in whichever form it began
   unfoldable pub MoveComesBack : Type 0
   MoveComesBack =
       (d e : MoveDone) (long : ℕ) → MoveMade d → d .number ≡ 0 → d .value ≡ pos long

@@ -1,6 +1,6 @@
 -- CR 9: the cases of the second form and of moving a file, one table under one statement, computed from the definitions on whole workspaces.
 -- The bytes are plain numbers, worked out by hand from the request's words.
-use mathlib.Core.Path.{_≡_, refl, sym, ap₂, subst}
+use mathlib.Core.Path.{_≡_, refl, sym, ap, ap₂, subst, fun-ext}
 use mathlib.Core.List.{List, [], _∷_, _++_}
 use Prim.Native.Nat.{ℕ}
 use lib.IntN.{pos}
@@ -66,12 +66,15 @@ dayBytes =
     ∷ 0 ∷ 6 ∷ 0 ∷ 1
     ∷ []
 
--- the genesis and 1, and the genesis and 3
+-- the genesis and 1, the genesis and 3, and the genesis alone
 abbrev marksKept : List ℕ
 marksKept = 0 ∷ 2 ∷ 0 ∷ 0 ∷ 0 ∷ 1 ∷ []
 
 abbrev marksHanded : List ℕ
 marksHanded = 0 ∷ 2 ∷ 0 ∷ 0 ∷ 0 ∷ 3 ∷ []
+
+abbrev genesisMarked : List ℕ
+genesisMarked = 0 ∷ 1 ∷ 0 ∷ 0 ∷ []
 
 unfoldable pub kept : CallsMade → List (List Got)
 kept c =
@@ -90,9 +93,10 @@ keptRows = given (is 128) (dayBytes ++ marksKept ++ 8 ∷ []) ∷ given (16, pos
 abbrev marksAfter : CallsMade → Outcome → List Got
 marksAfter c o = got (o .answer) ∷ is (markOf (o .words) 1) ∷ is (markOf (o .words) 3) ∷ writtenSecond c (o .words) (replicate 128 9)
 
--- read from the first form, from the second, moved there, moved back from there, and moved back as it is
-abbrev handedBy : CallsMade → (fromFirst fromSecond there again back : Outcome) → List (List Got)
-handedBy c fromFirst fromSecond there again back = marksAfter c fromFirst ∷ marksAfter c fromSecond ∷ moved there ∷ moved again ∷ moved back ∷ []
+-- read from the first form, from the second, moved there, moved back from there, moved back as it is, and with fewer marks
+abbrev handedBy : CallsMade → (fromFirst fromSecond there again back fewer : Outcome) → List (List Got)
+handedBy c fromFirst fromSecond there again back fewer =
+    marksAfter c fromFirst ∷ marksAfter c fromSecond ∷ moved there ∷ moved again ∷ moved back ∷ moved fewer ∷ []
 
 abbrev room : List ℕ
 room = replicate 128 9 ++ 8 ∷ []
@@ -101,14 +105,17 @@ unfoldable pub handed : CallsMade → List (List Got)
 handed c =
     handedBy c (c .read other dayBytes) (c .readSecond other (dayBytes ++ marksKept)) (c .moveFirst dayBytes room)
     (c .moveSecond (dayBytes ++ marksHanded) (replicate 122 9)) (c .moveSecond (dayBytes ++ marksKept) (replicate 122 9))
+    (c .moveSecond (dayBytes ++ genesisMarked) (replicate 122 9))
 
--- by the first form 3 is accepted, by the second 1 stays. A move there has what the first form gives, and a move back would lose the mark of 1
+-- by the first form 3 is accepted, by the second 1 stays. A move there has what the first form gives, and a move back would lose the mark of 1. Where
+-- the genesis alone is marked a move back would lose no mark, and 3 would be given one
 unfoldable pub handedRows : List (List Got)
 handedRows =
     (is 0 ∷ is 0 ∷ is 1 ∷ given (is 128) (dayBytes ++ marksHanded))
     ∷ (is 0 ∷ is 1 ∷ is 0 ∷ given (is 128) (dayBytes ++ marksKept))
     ∷ moving (is 128) (dayBytes ++ marksHanded ++ 8 ∷ [])
     ∷ moving (is 122) dayBytes
+    ∷ moving (19, pos 0) (replicate 122 9)
     ∷ moving (19, pos 0) (replicate 122 9)
     ∷ []
 
@@ -137,9 +144,9 @@ unfoldable pub unearnedRows : List (List Got)
 unearnedRows = leaving 0 ∷ leaving 0 ∷ []
 
 -- each tail is read behind the rivals' bytes on another ledger, and every word of that stays
-abbrev readTails : (read : List ℕ → List ℕ → Outcome) → (w : List ℕ) → List (List ℕ) → List (List Got)
+abbrev readTails : (reads : (tail : List ℕ) → Outcome) → (w : List ℕ) → List (List ℕ) → List (List Got)
 readTails reads w [] = []
-readTails reads w (tail ∷ tails) = read (reads w (rivals ++ tail)) w ∷ readTails reads w tails
+readTails reads w (tail ∷ tails) = read (reads tail) w ∷ readTails reads w tails
 
 -- each way a fourth section is bad
 abbrev tails : List (List ℕ)
@@ -167,7 +174,7 @@ tails =
     ∷ []
 
 unfoldable pub badMarks : CallsMade → List (List Got)
-badMarks c = let w = other in readTails (c .readSecond) w tails
+badMarks c = let w = other in readTails (λ tail. c .readSecond w (rivals ++ tail)) w tails
 
 unfoldable pub badMarksRows : List (List Got)
 badMarksRows = replicate 13 (leaving 17)
@@ -208,24 +215,25 @@ longerRows = leaving 1 ∷ []
 
 -- ---- moves of the rivals' file: the orders of refusals, and there and back
 
-abbrev genesisMarked : List ℕ
-genesisMarked = 0 ∷ 1 ∷ 0 ∷ 0 ∷ []
+-- each is the rivals' bytes and a tail
+abbrev movesBy : (there back : (tail out : List ℕ) → Outcome) → List (List Got)
+movesBy there back =
+    -- there, into just as many bytes and one less; and a bad file into none
+    moved (there [] (replicate 60 9))
+    ∷ moved (there [] (replicate 59 9))
+    ∷ moved (there genesisMarked [])
+    -- back, into just as many bytes, one more, and one less
+    ∷ moved (back genesisMarked (replicate 56 9))
+    ∷ moved (back genesisMarked (replicate 57 9))
+    ∷ moved (back genesisMarked (replicate 55 9))
+    -- other marks before a short output, and a bad file before both
+    ∷ moved (back (0 ∷ 2 ∷ 0 ∷ 0 ∷ 0 ∷ 3 ∷ []) (9 ∷ []))
+    ∷ moved (back (0 ∷ 2 ∷ 0 ∷ 0 ∷ 0 ∷ 4 ∷ []) (9 ∷ []))
+    ∷ moved (back [] (replicate 56 9))
+    ∷ []
 
 unfoldable pub moves : CallsMade → List (List Got)
-moves c =
-    -- there, into just as many bytes and one less; and a bad file into none
-    moved (c .moveFirst rivals (replicate 60 9))
-    ∷ moved (c .moveFirst rivals (replicate 59 9))
-    ∷ moved (c .moveFirst (rivals ++ genesisMarked) [])
-    -- back, into just as many bytes, one more, and one less
-    ∷ moved (c .moveSecond (rivals ++ genesisMarked) (replicate 56 9))
-    ∷ moved (c .moveSecond (rivals ++ genesisMarked) (replicate 57 9))
-    ∷ moved (c .moveSecond (rivals ++ genesisMarked) (replicate 55 9))
-    -- other marks before a short output, and a bad file before both
-    ∷ moved (c .moveSecond (rivals ++ 0 ∷ 2 ∷ 0 ∷ 0 ∷ 0 ∷ 3 ∷ []) (9 ∷ []))
-    ∷ moved (c .moveSecond (rivals ++ 0 ∷ 2 ∷ 0 ∷ 0 ∷ 0 ∷ 4 ∷ []) (9 ∷ []))
-    ∷ moved (c .moveSecond rivals (replicate 56 9))
-    ∷ []
+moves c = movesBy (λ tail out. c .moveFirst (rivals ++ tail) out) (λ tail out. c .moveSecond (rivals ++ tail) out)
 
 unfoldable pub movesRows : List (List Got)
 movesRows =
@@ -256,29 +264,37 @@ kept-walked : Passes (sameTable (kept (made testWalked)) keptRows)
 unfolding kept keptRows decode behindDay valueOf readMany inOrder dayOf marksOf chosen marksGood remarked parentCount holder highFirst joined encode sameNumbers testWalked badRecordWalked badSlotWalked allZero headerGood genesisGood bookingGood parentsGood stateGood markGood chits bookingsOf opened openWord lookUp hasUnknown hasTwice entered booked polled raiseOne prefer follow settleOne clearOne restart enough failureClears anotherMarked markOne ancestry sweep spread voteOf openCall upTo firstFrom total greatest from walkFrom
 kept-walked = tt
 
--- what stands behind a day's bytes doesn't change the day, so it is made once for all files that begin with them
+-- What stands behind a day's bytes doesn't change the day, so it is made once for all files that begin with them. The rows are a function of what it gives,
+-- with a name (`handedFrom`): a table that is refused is then told by that name, in half the seconds of one with a `let`
 
 day-again : (tail : List ℕ) → decode (dayBytes ++ tail) ≡ decode dayBytes
 unfolding decode valueOf readMany
 day-again tail = refl
 
-abbrev handedOnce : (first kept handed : Outcome) → List (List Got)
-handedOnce first kept handed =
-    handedBy (made testWalked) (readWith first First other dayBytes) (readWith kept Second other (dayBytes ++ marksKept)) (moveWith first First dayBytes room)
-    (moveWith handed Second (dayBytes ++ marksHanded) (replicate 122 9)) (moveWith kept Second (dayBytes ++ marksKept) (replicate 122 9))
+-- by what the day gives, read alone and with a tail behind it
+abbrev handedOnce : (first : Outcome) (tailed : List ℕ → Outcome) → List (List Got)
+handedOnce first tailed =
+    handedBy (made testWalked) (readWith first First other dayBytes) (readWith (tailed marksKept) Second other (dayBytes ++ marksKept))
+    (moveWith first First dayBytes room)
+    (moveWith (tailed marksHanded) Second (dayBytes ++ marksHanded) (replicate 122 9))
+    (moveWith (tailed marksKept) Second (dayBytes ++ marksKept) (replicate 122 9))
+    (moveWith (tailed genesisMarked) Second (dayBytes ++ genesisMarked) (replicate 122 9))
 
 abbrev again : Day → Outcome
 again = replayBy testWalked
 
-handed-once : Passes (sameTable (let o = again (decode dayBytes) in handedOnce o o o) handedRows)
-unfolding handedRows decode behindDay valueOf readMany inOrder dayOf marksOf chosen marksGood remarked parentCount holder highFirst joined encode sameNumbers testWalked badRecordWalked badSlotWalked allZero headerGood genesisGood bookingGood parentsGood stateGood markGood chits bookingsOf opened openWord lookUp hasUnknown hasTwice entered booked polled raiseOne prefer follow settleOne clearOne restart enough failureClears anotherMarked markOne ancestry sweep spread voteOf openCall upTo firstFrom total greatest from walkFrom
+unfoldable handedFrom : Outcome → List (List Got)
+handedFrom o = handedOnce o (λ tail. o)
+
+handed-once : Passes (sameTable (handedFrom (again (decode dayBytes))) handedRows)
+unfolding handedFrom handedRows decode behindDay valueOf readMany inOrder dayOf marksOf chosen marksGood remarked parentCount holder highFirst joined encode sameNumbers testWalked badRecordWalked badSlotWalked allZero headerGood genesisGood bookingGood parentsGood stateGood markGood chits bookingsOf opened openWord lookUp hasUnknown hasTwice entered booked polled raiseOne prefer follow settleOne clearOne restart enough failureClears anotherMarked markOne ancestry sweep spread voteOf openCall upTo firstFrom total greatest from walkFrom
 handed-once = tt
 
 handed-walked : Passes (sameTable (handed (made testWalked)) handedRows)
-unfolding handed
+unfolding handed handedFrom
 handed-walked =
-    subst (λ d. Passes (sameTable (handedOnce (again (decode dayBytes)) (again d) (again (decode (dayBytes ++ marksHanded)))) handedRows)) (sym (day-again marksKept))
-    (subst (λ d. Passes (sameTable (handedOnce (again (decode dayBytes)) (again (decode dayBytes)) (again d)) handedRows)) (sym (day-again marksHanded)) handed-once)
+    subst (λ tailed. Passes (sameTable (handedOnce (again (decode dayBytes)) tailed) handedRows))
+    (fun-ext (λ tail. ap again (sym (day-again tail)))) handed-once
 
 unearned-walked : Passes (sameTable (unearned (made testWalked)) unearnedRows)
 unfolding unearned unearnedRows decode behindDay valueOf readMany inOrder dayOf marksOf chosen marksGood remarked parentCount holder highFirst joined encode sameNumbers testWalked badRecordWalked badSlotWalked allZero headerGood genesisGood bookingGood parentsGood stateGood markGood chits bookingsOf opened openWord lookUp hasUnknown hasTwice entered booked polled raiseOne prefer follow settleOne clearOne restart enough failureClears anotherMarked markOne ancestry sweep spread voteOf openCall upTo firstFrom total greatest from walkFrom
@@ -288,20 +304,19 @@ rivals-again : (tail : List ℕ) → decode (rivals ++ tail) ≡ decode rivals
 unfolding decode valueOf readMany
 rivals-again tail = refl
 
--- read with one day made
-tails-once : (w : List ℕ) (ts : List (List ℕ))
-    → readTails (made testWalked .readSecond) w ts ≡ readTails (λ v file. readWith (again (decode rivals)) Second v file) w ts
-tails-once w [] = refl
-tails-once w (t ∷ ts) =
-    ap₂ (λ d rows. read (readWith (again d) Second w (rivals ++ t)) w ∷ rows) (rivals-again t) (tails-once w ts)
+abbrev badMarksOnce : (tailed : List ℕ → Outcome) → List (List Got)
+badMarksOnce tailed = let w = other in readTails (λ tail. readWith (tailed tail) Second w (rivals ++ tail)) w tails
 
-badMarks-once : Passes (sameTable (let o = again (decode rivals) in readTails (λ v file. readWith o Second v file) other tails) badMarksRows)
-unfolding badMarksRows decode behindDay valueOf readMany inOrder dayOf marksOf chosen marksGood remarked parentCount holder highFirst joined encode sameNumbers testWalked badRecordWalked badSlotWalked allZero headerGood genesisGood bookingGood parentsGood stateGood markGood chits bookingsOf opened openWord lookUp hasUnknown hasTwice entered booked polled raiseOne prefer follow settleOne clearOne restart enough failureClears anotherMarked markOne ancestry sweep spread voteOf openCall upTo firstFrom total greatest from walkFrom
+unfoldable badMarksFrom : Outcome → List (List Got)
+badMarksFrom o = badMarksOnce (λ tail. o)
+
+badMarks-once : Passes (sameTable (badMarksFrom (again (decode rivals))) badMarksRows)
+unfolding badMarksFrom badMarksRows decode behindDay valueOf readMany inOrder dayOf marksOf chosen marksGood remarked parentCount holder highFirst joined encode sameNumbers testWalked badRecordWalked badSlotWalked allZero headerGood genesisGood bookingGood parentsGood stateGood markGood chits bookingsOf opened openWord lookUp hasUnknown hasTwice entered booked polled raiseOne prefer follow settleOne clearOne restart enough failureClears anotherMarked markOne ancestry sweep spread voteOf openCall upTo firstFrom total greatest from walkFrom
 badMarks-once = tt
 
 badMarks-walked : Passes (sameTable (badMarks (made testWalked)) badMarksRows)
-unfolding badMarks
-badMarks-walked = subst (λ rows. Passes (sameTable rows badMarksRows)) (sym (tails-once other tails)) badMarks-once
+unfolding badMarks badMarksFrom
+badMarks-walked = subst (λ tailed. Passes (sameTable (badMarksOnce tailed) badMarksRows)) (fun-ext (λ tail. ap again (sym (rivals-again tail)))) badMarks-once
 
 days-walked : Passes (sameTable (days (made testWalked)) daysRows)
 unfolding days daysRows decode behindDay valueOf readMany inOrder dayOf marksOf chosen marksGood remarked parentCount holder highFirst joined encode sameNumbers testWalked badRecordWalked badSlotWalked allZero headerGood genesisGood bookingGood parentsGood stateGood markGood chits bookingsOf opened openWord lookUp hasUnknown hasTwice entered booked polled raiseOne prefer follow settleOne clearOne restart enough failureClears anotherMarked markOne ancestry sweep spread voteOf openCall upTo firstFrom total greatest from walkFrom
@@ -311,9 +326,19 @@ longer-walked : Passes (sameTable (longer (made testWalked)) longerRows)
 unfolding longer longerRows decode behindDay valueOf readMany inOrder dayOf marksOf chosen marksGood remarked parentCount holder highFirst joined encode sameNumbers testWalked badRecordWalked badSlotWalked allZero headerGood genesisGood bookingGood parentsGood stateGood markGood chits bookingsOf opened openWord lookUp hasUnknown hasTwice entered booked polled raiseOne prefer follow settleOne clearOne restart enough failureClears anotherMarked markOne ancestry sweep spread voteOf openCall upTo firstFrom total greatest from walkFrom
 longer-walked = tt
 
+abbrev movesOnce : (tailed : List ℕ → Outcome) → List (List Got)
+movesOnce tailed = movesBy (λ tail out. moveWith (tailed tail) First (rivals ++ tail) out) (λ tail out. moveWith (tailed tail) Second (rivals ++ tail) out)
+
+unfoldable movesFrom : Outcome → List (List Got)
+movesFrom o = movesOnce (λ tail. o)
+
+moves-once : Passes (sameTable (movesFrom (again (decode rivals))) movesRows)
+unfolding movesFrom movesRows decode behindDay valueOf readMany inOrder dayOf marksOf chosen marksGood remarked parentCount holder highFirst joined encode sameNumbers testWalked badRecordWalked badSlotWalked allZero headerGood genesisGood bookingGood parentsGood stateGood markGood chits bookingsOf opened openWord lookUp hasUnknown hasTwice entered booked polled raiseOne prefer follow settleOne clearOne restart enough failureClears anotherMarked markOne ancestry sweep spread voteOf openCall upTo firstFrom total greatest from walkFrom
+moves-once = tt
+
 moves-walked : Passes (sameTable (moves (made testWalked)) movesRows)
-unfolding moves movesRows decode behindDay valueOf readMany inOrder dayOf marksOf chosen marksGood remarked parentCount holder highFirst joined encode sameNumbers testWalked badRecordWalked badSlotWalked allZero headerGood genesisGood bookingGood parentsGood stateGood markGood chits bookingsOf opened openWord lookUp hasUnknown hasTwice entered booked polled raiseOne prefer follow settleOne clearOne restart enough failureClears anotherMarked markOne ancestry sweep spread voteOf openCall upTo firstFrom total greatest from walkFrom
-moves-walked = tt
+unfolding moves movesFrom
+moves-walked = subst (λ tailed. Passes (sameTable (movesOnce tailed) movesRows)) (fun-ext (λ tail. ap again (sym (rivals-again tail)))) moves-once
 
 -- the statement: the cases are as the request says
 pub cases : table theCalls ≡ says

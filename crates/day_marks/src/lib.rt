@@ -22,7 +22,7 @@ fn byte_at(file: &[u8], at: usize) -> usize
 }
 
 // The number of two bytes at an offset.
-fn count_at(file: &[u8], at: usize) -> usize
+fn number_at(file: &[u8], at: usize) -> usize
     requires { ⌜ at ≤ length (now file) ⌝ }
     ensures { λ r. ⌜ (r ≡ readNumber (drop at (now (file .entry))) .value) × (r < 65536) ⌝ }
 {
@@ -44,7 +44,7 @@ fn past(file: &[u8], at: usize, count: usize) -> usize
 fn bookings_start(file: &[u8]) -> usize
     ensures { λ r. ⌜ (r ≤ length (now (file .entry))) × (drop r (now (file .entry)) ≡ readSetting (now (file .entry)) .rest) ⌝ }
 {
-    let numbers = count_at(file, 0);
+    let numbers = number_at(file, 0);
     past(file, 0, bytes::NUMBER_BYTES + bytes::NUMBER_BYTES * numbers)
 }
 
@@ -53,7 +53,7 @@ fn booking_end(file: &[u8], at: usize) -> usize
     requires { ⌜ at ≤ length (now file) ⌝ }
     ensures { λ r. ⌜ (r ≤ length (now (file .entry))) × (drop r (now (file .entry)) ≡ readBooking (drop at (now (file .entry))) .rest) ⌝ }
 {
-    let parents = count_at(file, past(file, at, bytes::PARENTS_COUNT));
+    let parents = number_at(file, past(file, at, bytes::PARENTS_COUNT));
     past(file, at, bytes::PARENTS + bytes::NUMBER_BYTES * parents)
 }
 
@@ -77,9 +77,9 @@ fn day_end(file: &[u8]) -> usize
     ensures { λ r. ⌜ (r ≤ length (now (file .entry))) × (drop r (now (file .entry)) ≡ behindDay (now (file .entry))) ⌝ }
 {
     let start = bookings_start(file);
-    let count = count_at(file, start);
+    let count = number_at(file, start);
     let end = bookings_end(file, past(file, start, bytes::NUMBER_BYTES), count);
-    let polls = count_at(file, end);
+    let polls = number_at(file, end);
     past(file, end, bytes::NUMBER_BYTES + bytes::POLL_BYTES * polls)
 }
 
@@ -90,7 +90,7 @@ fn mark_at(section: &[u8], a: usize) -> usize
     requires { ⌜ (a < length (marksIn (now section))) × (2 + 2 * length (marksIn (now section)) ≤ length (now section)) ⌝ }
     ensures { λ r. ⌜ r ≡ getD (marksIn (now (section .entry))) a 0 ⌝ }
 {
-    count_at(section, bytes::NUMBER_BYTES + bytes::NUMBER_BYTES * a)
+    number_at(section, bytes::NUMBER_BYTES + bytes::NUMBER_BYTES * a)
 }
 
 // The section holds its count and as many numbers, the first 0, each above the one before it and below n.
@@ -101,7 +101,7 @@ fn numbers_good(section: &[u8], n: usize) -> bool
     if section.len() < bytes::LEAST_MARKS {
         return false;
     }
-    let count = count_at(section, 0);
+    let count = number_at(section, 0);
     if section.len() - bytes::NUMBER_BYTES != bytes::NUMBER_BYTES * count {
         return false;
     }
@@ -126,13 +126,13 @@ fn slots_differ(file: &[u8], section: &[u8]) -> bool
 {
     let mut at = past(file, bookings_start(file), bytes::NUMBER_BYTES);
     let mut walked = 0;
-    let count = count_at(section, 0);
+    let count = number_at(section, 0);
     let mut seen = [0u64; bits::BIT_WORDS];
     bits::set_bit(&mut seen, 0);
     for a in 1..count {
         let j = mark_at(section, a) - 1;
         at = bookings_end(file, at, j - walked);
-        let slot = count_at(file, past(file, at, bytes::SLOT));
+        let slot = number_at(file, past(file, at, bytes::SLOT));
         if bits::is_set(&seen, slot) {
             return false;
         }
@@ -150,7 +150,7 @@ pub fn judge(file: &[u8]) -> usize
     if !day_judge::is_good(&file[..end]) {
         return 0;
     }
-    let n = count_at(file, bookings_start(file)) + 1;
+    let n = number_at(file, bookings_start(file)) + 1;
     let section = &file[end..];
     if !numbers_good(section, n) {
         return 0;

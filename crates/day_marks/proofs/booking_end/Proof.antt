@@ -11,8 +11,8 @@ use Rattle.day_marks.proofs.booking_end.Tie as tie
 past-requires : tie.Need-past-requires
 past-requires c κs = search needs
 
-count-at-requires : tie.Need-count-at-requires
-count-at-requires c κs = search needs
+number-at-requires : tie.Need-number-at-requires
+number-at-requires c κs = search needs
 
 mul-past : tie.Need-mul-past
 mul-past c = search needs
@@ -29,9 +29,9 @@ returns c =
     let P = N .before in
     let S = P .before .before .args in
     let l = drop (S .at) (S .file .now) in
-    let count = N .count-at .ensures .0 ∙ ap (λ t. readNumber t .value) (P .past .ensures .1) in
+    let count = N .number-at .ensures .0 ∙ ap (λ t. readNumber t .value) (P .past .ensures .1) in
     (c .past2 .ensures .0, c .past2 .ensures .1 ∙ ap (λ (n : ℕ). drop (12 + 2 * n) l) count ∙ sym (booking-rest l))
 
 pub booking-end-spec : {M : Type 1} → statement M
 booking-end-spec =
-    tie.close (tie.spec past-requires count-at-requires mul-past add-past past-requires-2 returns)
+    tie.close (tie.spec past-requires number-at-requires mul-past add-past past-requires-2 returns)

@@ -7,8 +7,8 @@ use Rattle.day_marks.proofs.Readers.{setting-rest}
 use Rattle.day_marks.proofs.bookings_start.Statement.{statement}
 use Rattle.day_marks.proofs.bookings_start.Tie as tie
 
-count-at-requires : tie.Need-count-at-requires
-count-at-requires c κs = search needs
+number-at-requires : tie.Need-number-at-requires
+number-at-requires c κs = search needs
 
 mul-past : tie.Need-mul-past
 mul-past c = search needs
@@ -22,8 +22,8 @@ past-requires c κs = search needs
 returns : tie.Need-returns
 returns c =
     let file = c .before .before .before .args .file .now in
-    (c .past .ensures .0, c .past .ensures .1 ∙ ap (λ (n : ℕ). drop (2 + 2 * n) file) (c .before .count-at .ensures .0) ∙ sym (setting-rest file))
+    (c .past .ensures .0, c .past .ensures .1 ∙ ap (λ (n : ℕ). drop (2 + 2 * n) file) (c .before .number-at .ensures .0) ∙ sym (setting-rest file))
 
 pub bookings-start-spec : {M : Type 1} → statement M
 bookings-start-spec =
-    tie.close (tie.spec count-at-requires mul-past add-past past-requires returns)
+    tie.close (tie.spec number-at-requires mul-past add-past past-requires returns)

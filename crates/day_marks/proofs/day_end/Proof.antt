@@ -12,8 +12,8 @@ use Rattle.day_marks.proofs.day_end.Tie as tie
 bookings-start-requires : tie.Need-bookings-start-requires
 bookings-start-requires c κs = search needs
 
-count-at-requires : tie.Need-count-at-requires
-count-at-requires c κs = search needs
+number-at-requires : tie.Need-number-at-requires
+number-at-requires c κs = search needs
 
 past-requires : tie.Need-past-requires
 past-requires c κs = search needs
@@ -21,8 +21,8 @@ past-requires c κs = search needs
 bookings-end-requires : tie.Need-bookings-end-requires
 bookings-end-requires c κs = search needs
 
-count-at-requires-2 : tie.Need-count-at-requires-2
-count-at-requires-2 c κs = search needs
+number-at-requires-2 : tie.Need-number-at-requires-2
+number-at-requires-2 c κs = search needs
 
 mul-past : tie.Need-mul-past
 mul-past c = search needs
@@ -44,10 +44,10 @@ returns c =
     let start = F .bookings-start .ensures .1 in
     let bookings : drop (B .bookings-end .result) file ≡ readCounted readBooking (readSetting file .rest) .rest =
     B .bookings-end .ensures .1
-    ∙ ap₂ (λ (n : ℕ) (l : List ℕ). readMany readBooking n l .rest) (N .count-at .ensures .0 ∙ ap (λ l. readNumber l .value) start) (P .past .ensures .1 ∙ ap (drop 2) start) in (
+    ∙ ap₂ (λ (n : ℕ) (l : List ℕ). readMany readBooking n l .rest) (N .number-at .ensures .0 ∙ ap (λ l. readNumber l .value) start) (P .past .ensures .1 ∙ ap (drop 2) start) in (
       c .past2 .ensures .0,
       c .past2 .ensures .1
-          ∙ ap₂ (λ (n : ℕ) (l : List ℕ). drop (2 + 4 * n) l) (Q .count-at2 .ensures .0 ∙ ap (λ l. readNumber l .value) bookings) bookings
+          ∙ ap₂ (λ (n : ℕ) (l : List ℕ). drop (2 + 4 * n) l) (Q .number-at2 .ensures .0 ∙ ap (λ l. readNumber l .value) bookings) bookings
           ∙ sym (day-rest file),
     )
 
@@ -56,10 +56,10 @@ day-end-spec =
     tie.close
     (tie.spec
     bookings-start-requires
-    count-at-requires
+    number-at-requires
     past-requires
     bookings-end-requires
-    count-at-requires-2
+    number-at-requires-2
     mul-past
     add-past
     past-requires-2

@@ -52,8 +52,8 @@ bad-front c =
 bookings-start-requires : tie.Need-bookings-start-requires
 bookings-start-requires c κs = search needs
 
-count-at-requires : tie.Need-count-at-requires
-count-at-requires c κs = search needs
+number-at-requires : tie.Need-number-at-requires
+number-at-requires c κs = search needs
 
 add-n : tie.Need-add-n
 add-n c = search needs
@@ -71,7 +71,7 @@ numbers-good-requires : tie.Need-numbers-good-requires
 numbers-good-requires c κs = search needs
 
 -- where the count of the bookings is read
-module _ (N : tie.After-count-at) where
+module _ (N : tie.After-number-at) where
   abbrev G : tie.After-is-good
   G = N .before .before .before
 
@@ -84,8 +84,8 @@ module _ (N : tie.After-count-at) where
   abbrev bs : List DayBooking
   bs = decode (file E) .bookings
 
-  many : N .count-at .result + 1 ≡ length bs + 1
-  many = ap (λ (k : ℕ). k + 1) (N .count-at .ensures .0 ∙ ap (λ l. readNumber l .value) (N .before .bookings-start .ensures .1) ∙ sym (bookings-many (file E)))
+  many : N .number-at .result + 1 ≡ length bs + 1
+  many = ap (λ (k : ℕ). k + 1) (N .number-at .ensures .0 ∙ ap (λ l. readNumber l .value) (N .before .bookings-start .ensures .1) ∙ sym (bookings-many (file E)))
 
   -- what is behind the cut
   abbrev section : List ℕ
@@ -146,7 +146,7 @@ judge-spec =
     is-good-requires
     bad-front
     bookings-start-requires
-    count-at-requires
+    number-at-requires
     add-n
     sub-section
     part-section-start

@@ -29,17 +29,17 @@ short c =
     let S = c .before .before .args in
     denied (λ claim. omega (arith, good-long (S .n) (S .section .now) claim, good-risen (S .n) (S .section .now) claim .some))
 
-count-at-requires : tie.Need-count-at-requires Inv-loop μ-loop
-count-at-requires c κs = search needs
+number-at-requires : tie.Need-number-at-requires Inv-loop μ-loop
+number-at-requires c κs = search needs
 
 sub-if2 : tie.Need-sub-if2 Inv-loop μ-loop
 sub-if2 c = search needs
 
 mul-if2 : tie.Need-mul-if2 Inv-loop μ-loop
-mul-if2 c = omega (arith, c .count-at .ensures .1)
+mul-if2 c = omega (arith, c .number-at .ensures .1)
 
 -- where the count is read
-module _ (N : tie.After-count-at Inv-loop μ-loop) where
+module _ (N : tie.After-number-at Inv-loop μ-loop) where
   abbrev S : tie.Start Inv-loop μ-loop
   S = N .before .before .before
 
@@ -52,8 +52,8 @@ module _ (N : tie.After-count-at Inv-loop μ-loop) where
   abbrev n : ℕ
   n = S .args .n
 
-  many : N .count-at .result ≡ length marks
-  many = N .count-at .ensures .0 ∙ sym (marks-many section)
+  many : N .number-at .result ≡ length marks
+  many = N .number-at .ensures .0 ∙ sym (marks-many section)
 
   bytes : AreBytes section
   bytes k = omega (arith, N .before .before .shared-slice-known .given k)
@@ -88,7 +88,7 @@ module _ (M : tie.After-mark-at2 Inv-loop μ-loop) where
   abbrev L : tie.At-loop Inv-loop μ-loop
   L = M .before .before
 
-  abbrev N : tie.After-count-at Inv-loop μ-loop
+  abbrev N : tie.After-number-at Inv-loop μ-loop
   N = L .before .before .before .before
 
   abbrev a : ℕ
@@ -157,7 +157,7 @@ numbers-good-spec =
     Inv-loop
     μ-loop
     short
-    count-at-requires
+    number-at-requires
     sub-if2
     mul-if2
     wrong-length

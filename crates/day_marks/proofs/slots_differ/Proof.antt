@@ -40,8 +40,8 @@ bookings-start-requires c κs = search needs
 past-requires : tie.Need-past-requires Inv-loop μ-loop
 past-requires c κs = search needs
 
-count-at-requires : tie.Need-count-at-requires Inv-loop μ-loop
-count-at-requires c κs = search needs
+number-at-requires : tie.Need-number-at-requires Inv-loop μ-loop
+number-at-requires c κs = search needs
 
 slice-aggregate-set-bit : tie.Need-slice-aggregate-set-bit Inv-loop μ-loop
 slice-aggregate-set-bit c = search needs
@@ -50,7 +50,7 @@ set-bit-requires : tie.Need-set-bit-requires Inv-loop μ-loop
 set-bit-requires c κs = search needs
 
 -- where the count of the marks is read
-module _ (C : tie.After-count-at Inv-loop μ-loop) where
+module _ (C : tie.After-number-at Inv-loop μ-loop) where
   abbrev S : tie.Start Inv-loop μ-loop
   S = C .before .before .before .before .before
 
@@ -67,10 +67,10 @@ module _ (C : tie.After-count-at Inv-loop μ-loop) where
   marks = marksIn section
 
   abbrev count : ℕ
-  count = C .count-at .result
+  count = C .number-at .result
 
   many : count ≡ length marks
-  many = C .count-at .ensures .0 ∙ sym (marks-many section)
+  many = C .number-at .ensures .0 ∙ sym (marks-many section)
 
   long : length section ≡ 2 + 2 * length marks
   long = good-long (length bs + 1) section (S .pre .0)
@@ -102,7 +102,7 @@ module _ (M : tie.After-mark-at Inv-loop μ-loop) where
   abbrev L : tie.At-loop Inv-loop μ-loop
   L = M .before .before
 
-  abbrev C : tie.After-count-at Inv-loop μ-loop
+  abbrev C : tie.After-number-at Inv-loop μ-loop
   C = L .before .before .before .before
 
   abbrev a : ℕ
@@ -133,11 +133,11 @@ bookings-end-requires c κs = L c .loop .inv .2
 past-requires-2 : tie.Need-past-requires-2 Inv-loop μ-loop
 past-requires-2 c κs = c .bookings-end .ensures .0
 
-count-at-requires-2 : tie.Need-count-at-requires-2 Inv-loop μ-loop
-count-at-requires-2 c κs = c .past2 .ensures .0
+number-at-requires-2 : tie.Need-number-at-requires-2 Inv-loop μ-loop
+number-at-requires-2 c κs = c .past2 .ensures .0
 
 -- its slot
-module _ (Q : tie.After-count-at2 Inv-loop μ-loop) where
+module _ (Q : tie.After-number-at2 Inv-loop μ-loop) where
   abbrev P : tie.After-past2 Inv-loop μ-loop
   P = Q .before
 
@@ -153,9 +153,9 @@ module _ (Q : tie.After-count-at2 Inv-loop μ-loop) where
   walked-there : drop (B .bookings-end .result) (file (C M)) ≡ behind (file (C M)) (m M - 1)
   walked-there = behind-further (file (C M)) (L M .loop .walked) (m M - 1) (L M .loop .at) (B .bookings-end .result) (omega (arith, above M)) (L M .loop .inv .3) (B .bookings-end .ensures .1)
 
-  slot-read : Q .count-at2 .result ≡ slots (a M)
+  slot-read : Q .number-at2 .result ≡ slots (a M)
   slot-read =
-      slot-is (file (C M)) (m M) (omega (arith, above M)) (few M) _ (B .bookings-end .result) (P .past2 .result) (Q .count-at2 .ensures .0) (P .past2 .ensures .1) walked-there
+      slot-is (file (C M)) (m M) (omega (arith, above M)) (few M) _ (B .bookings-end .result) (P .past2 .result) (Q .number-at2 .ensures .0) (P .past2 .ensures .1) walked-there
       ∙ ap (slotIn (bs (C M))) (M .mark-at .ensures)
 
   slot-small : slots (a M) < 512
@@ -229,7 +229,7 @@ slots-differ-spec =
     μ-loop
     bookings-start-requires
     past-requires
-    count-at-requires
+    number-at-requires
     slice-aggregate-set-bit
     set-bit-requires
     loop-holds
@@ -238,7 +238,7 @@ slots-differ-spec =
     sub-bookings-end
     bookings-end-requires
     past-requires-2
-    count-at-requires-2
+    number-at-requires-2
     slice-aggregate-is-set
     is-set-requires
     twice

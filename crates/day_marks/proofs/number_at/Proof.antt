@@ -4,8 +4,8 @@ use Prim.Native.Nat.{ℕ, _+_, _*_}
 use native.Mathlib.Omega.{arith}
 use borrow.Author.Needs.{needs}
 use Rattle.day_marks.proofs.Readers.{number-is}
-use Rattle.day_marks.proofs.count_at.Statement.{statement}
-use Rattle.day_marks.proofs.count_at.Tie as tie
+use Rattle.day_marks.proofs.number_at.Statement.{statement}
+use Rattle.day_marks.proofs.number_at.Tie as tie
 
 byte-at-requires : tie.Need-byte-at-requires
 byte-at-requires c κs = search needs
@@ -28,7 +28,7 @@ returns c =
     let S = B .before .before .args in
     (ap₂ (λ (h l : ℕ). h * 256 + l) (B .byte-at .ensures .0) (c .byte-at2 .ensures .0) ∙ sym (number-is (S .file .now) (S .at)), omega (arith, B .byte-at .ensures, c .byte-at2 .ensures))
 
-pub count-at-spec : {M : Type 1} → statement M
-count-at-spec =
+pub number-at-spec : {M : Type 1} → statement M
+number-at-spec =
     tie.close
     (tie.spec byte-at-requires mul-result add-byte-at byte-at-requires-2 add-result returns)
