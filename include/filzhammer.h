@@ -3,14 +3,14 @@
  *
  * A caller lends the words; the library keeps nothing of its own, allocates nothing and reads no clock, so any number of
  * ledgers may live side by side. Every call takes any contents and any numbers: it answers, or refuses and changes no word,
- * no byte, no cell and no tally that it was lent.
+ * no byte and no cell that it was lent.
  *
  * Each call returns 0 when it is taken and writes its value through the last pointer: the five readings have what they tell,
- * writing a day file, and moving one to its other form, have the length of the file written, a lookup by an index has the
- * booking's number, and a vote that is tallied has the verdict. Open, book, poll and reading a day file, which alone change the
- * workspace, have value 0, and so have building an index and entering a number in it. A refused call returns the number of its
- * refusal and leaves every word of the workspace, every byte of the buffer for a file, every cell of the index and the tally as
- * they were. It writes value 0, or, with FILZ_DAMAGED_RECORD and FILZ_DAMAGED_SLOT, the lowest row that breaks a rule.
+ * writing a day file, and moving one to its other form, have the length of the file written, and a lookup by an index has the
+ * booking's number. Open, book, poll and reading a day file, which alone change the workspace, have value 0, and so have building
+ * an index and entering a number in it. A refused call returns the number of its refusal and leaves every word of the workspace,
+ * every byte of the buffer for a file and every cell of the index as it was. It writes value 0, or, with FILZ_DAMAGED_RECORD and
+ * FILZ_DAMAGED_SLOT, the lowest row that breaks a rule.
  *
  * The two moves, filz_move_first and filz_move_second, hold a workspace of their own on the stack and take up to 16,832 bytes of
  * it. Every other call takes less than 2 KiB.
@@ -21,13 +21,11 @@
  *  - `value` leads to one int64_t and is not NULL, and what it leads to does not overlap the workspace, the parents, the votes,
  *    the buffer for a file, the file or the index; nor does any of the others overlap the workspace, nor the buffer of a move its
  *    file;
- *  - the four pointers to a tally lead to one number each and are not NULL, and neither these numbers nor the value overlap one
- *    another;
  *  - while open, book or poll runs, or a day file is read, no other thread uses the same workspace. The five readings may run at
  *    the same time as one another, as the writing of day files, each into a buffer that no other thread uses, and as the calls
  *    with an index. While one is built, or a number is entered in it, no other thread uses that index; lookups may share it. A
  *    move uses no workspace of a caller: it may run beside any call, as long as no other thread writes its file or uses its
- *    buffer. Nor does a vote that is tallied: it may run beside any call, as long as no other thread uses its tally.
+ *    buffer.
  */
 #ifndef FILZHAMMER_H
 #define FILZHAMMER_H
@@ -154,24 +152,6 @@ extern "C" {
 #define FILZ_CELLS 1024
 
 /*
- * The tally: the votes of one poll, counted one at a time as they come, in any order. Each has its place, 0 to k - 1, which it
- * will have in the list for filz_poll. A tally is three counts and a mask of places, and an empty one is all zero. The caller
- * keeps it from vote to vote, one for each poll; no call keeps anything of it, and it belongs to no ledger.
- *
- * With each vote that is taken comes the verdict as it stands. docs/TALLY.md tells how a poll is closed early by it.
- */
-#define FILZ_UNDECIDED 0 /* neither of the two yet: it depends on the places left */
-#define FILZ_SUCCESS 1   /* at least a votes are yes */
-#define FILZ_FAILURE 2   /* fewer than a would be yes, even with a yes in every place left */
-
-struct filz_vote_tally {
-    uint16_t yes;
-    uint16_t no;
-    uint16_t silent;
-    uint64_t places; /* bit i is set if place i is filled: UINT64_C(1) << i */
-};
-
-/*
  * What a call returns. Where several refusals apply, each call names the first of its own list below; so a damaged header
  * hides damaged records, and a damaged record hides damaged slot entries.
  *
@@ -205,9 +185,6 @@ enum filz_number {
     FILZ_BAD_FILE = 17,       /* the file is not good in the form that the call names; a byte missing, or one more, is enough */
     FILZ_WRONG_INDEX = 18,    /* the index hasn't FILZ_CELLS cells */
     FILZ_OTHER_MARKS = 19,    /* the first form of the file would be read with other marks: others would be accepted */
-    FILZ_BAD_PLACE = 20,      /* the place of a vote isn't below k */
-    FILZ_PLACE_FILLED = 21,   /* the tally has a vote for this place already */
-    FILZ_BAD_TALLY = 26,      /* a filled place isn't below k, or the three counts don't add up to the number of filled places */
     FILZ_INDEX_FULL = 27      /* no cell of the index is empty */
 };
 
@@ -401,34 +378,6 @@ uint32_t filz_index_enter(const uint16_t *ws, size_t words, uint16_t *index, siz
  * FILZ_UNKNOWN_NAME.
  */
 uint32_t filz_index_find(const uint16_t *ws, size_t words, const uint16_t *index, size_t cells, uint64_t name, int64_t *value);
-
-/*
- * Takes one vote into a tally: the count of its kind rises by one, and its place is filled. The value is the verdict with this
- * vote counted: FILZ_SUCCESS if the yes votes are at least a; FILZ_FAILURE if they and the places left together are fewer than a;
- * else FILZ_UNDECIDED. A refused call leaves the tally.
- *
- * Give the ledger's k and a, the same with every vote of a poll, and begin with an empty tally. Then FILZ_SUCCESS and FILZ_FAILURE
- * are final: no later vote changes them, and filz_poll decides so, however the rest vote. Votes that come later are still taken.
- * So from either on the poll can be closed: by a list of the votes taken, with FILZ_SILENT in the places left, filz_poll gives the
- * number, the value and the words that it gives by the whole list, if that has votes alone. As long as the value is FILZ_UNDECIDED,
- * the rest can still make it either.
- *
- * Neither k nor a is kept in the tally. That they were others before is seen only where a filled place is not below the new k;
- * nothing is promised of verdicts then.
- *
- * FILZ_BAD_SETTING is for k and a alone: they break 1 <= k <= 64 or a <= k < 2 * a.
- *
- * Refuses, in this order: FILZ_BAD_SETTING, FILZ_BAD_TALLY, FILZ_BAD_PLACE, FILZ_PLACE_FILLED, FILZ_BAD_VOTE.
- */
-uint32_t filz_tally(uint16_t *yes, uint16_t *no, uint16_t *silent, uint64_t *places, uint16_t k, uint16_t a, uint16_t place,
-                    uint8_t vote, int64_t *value);
-
-/* filz_tally on a tally that stands in a struct, as C callers will mostly hold it. */
-static inline uint32_t filz_take_vote(struct filz_vote_tally *tally, uint16_t k, uint16_t a, uint16_t place, uint8_t vote,
-                                      int64_t *value)
-{
-    return filz_tally(&tally->yes, &tally->no, &tally->silent, &tally->places, k, a, place, vote, value);
-}
 
 #ifdef __cplusplus
 }

@@ -1,9 +1,8 @@
 //! The C functions of `include/filzhammer.h` behind safe ones. All that is unsafe stands here.
 //!
-//! Each pointer and length below comes of one slice, so it leads to that many elements, is aligned and never null; those to a
-//! tally come of its fields, one each. `&mut` keeps what is written apart from all that is read, and from what else is written.
-//! That is all the header asks of a caller.
-use crate::{Form, Refusal, Tally};
+//! Each pointer and length below comes of one slice, so it leads to that many elements, is aligned and never null; `&mut`
+//! keeps what is written apart from all that is read. That is all the header asks of a caller.
+use crate::{Form, Refusal};
 
 type Reading = unsafe extern "C" fn(*const u16, usize, u64, *mut i64) -> u32;
 type Writing = unsafe extern "C" fn(*const u16, usize, *mut u8, usize, *mut i64) -> u32;
@@ -106,17 +105,6 @@ extern "C" {
         index: *const u16,
         cells: usize,
         name: u64,
-        value: *mut i64,
-    ) -> u32;
-    fn filz_tally(
-        yes: *mut u16,
-        no: *mut u16,
-        silent: *mut u16,
-        places: *mut u64,
-        k: u16,
-        a: u16,
-        place: u16,
-        vote: u8,
         value: *mut i64,
     ) -> u32;
 }
@@ -273,23 +261,6 @@ pub fn index_find(ws: &[u16], index: &[u16], name: u64) -> Result<i64, Refusal> 
             index.as_ptr(),
             index.len(),
             name,
-            value,
-        )
-    })
-}
-
-pub fn take_vote(tally: &mut Tally, k: u16, a: u16, place: u16, vote: u8) -> Result<i64, Refusal> {
-    // SAFETY: see the top of this file.
-    ask(|value| unsafe {
-        filz_tally(
-            &mut tally.yes,
-            &mut tally.no,
-            &mut tally.silent,
-            &mut tally.places,
-            k,
-            a,
-            place,
-            vote,
             value,
         )
     })

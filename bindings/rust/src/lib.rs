@@ -5,7 +5,6 @@
 //! [`write()`] writes the ledger as a day file, into bytes that are lent too, and [`read`] makes a ledger of such a file. It has
 //! two forms, and [`move_from`] leads from each to the other.
 //! [`index_find`] tells a booking's number by its name, from an index of [`CELLS`] words that are lent as well.
-//! A [`Tally`] takes the votes of a poll one at a time, and tells as soon as its outcome is certain.
 //! Nothing is allocated and nothing is kept outside the lent words: copy them, store them, or have as many ledgers as you like.
 //!
 //! ```
@@ -59,15 +58,15 @@
 //!
 //! 1. **Every call ends in an answer, and a refused call leaves no trace.** Any words and any arguments may be passed; nothing
 //!    has to be tested first, and no call panics. Which refusal is given is settled for every input, the first of the call's
-//!    list that applies, and so is the row that it names. Then no word has changed, no byte of a buffer for a file, no cell
-//!    of an index, and no tally.
+//!    list that applies, and so is the row that it names. Then no word has changed, no byte of a buffer for a file, and no cell
+//!    of an index.
 //!    Whatever a taken call leaves is again a sound ledger.
 //! 2. **Answers and words are those of the rules, to the last word.** The rules say what an ancestry is (the booking and
 //!    everything reached through parents, each once), when a poll succeeds and what it writes, what a query answers,
 //!    when a booking is accepted, each byte of a day file, and each cell of an index. For the same words and arguments there is
 //!    one possible outcome, and it is this one. Of the bookings of a slot never more than one is accepted at a time, and who is
 //!    accepted stays so until the next taken opening or reading of a day file. By the built index a name is found exactly if it
-//!    is booked. From an empty tally, with one k and a throughout, a verdict is that of the whole poll, however the rest vote.
+//!    is booked.
 //! 3. **Confidence is earned.** Over every run since the last taken opening or reading of a day file, whatever calls came in
 //!    whatever order: a booking's confidence is the number of successful polls of bookings that have it in their ancestry, those
 //!    of the file among them; all confidences together are the sum of those ancestries' sizes; and no booking has more
@@ -276,42 +275,6 @@
 //! Nothing in an index says to which ledger it belongs. By one that is stale, another ledger's or damaged a booked name may be
 //! refused as unknown, but a number that is found is always that of the booking with the name. `docs/INDEX.md` of the repository
 //! has the cells of an example.
-//!
-//! # The tally
-//!
-//! [`poll`] wants all `k` votes at once. A desk that hears them one by one keeps a [`Tally`], and is told with each vote whether
-//! the poll has succeeded, has failed, or is undecided. After the first [`Success`](Verdict::Success) or
-//! [`Failure`](Verdict::Failure) it need not wait: the list with [`SILENT`] for those who weren't heard does to the ledger, to the
-//! last word, what the whole list would do.
-//!
-//! ```
-//! use filzhammer::{book, open, poll, Refusal, Setting, Tally, Verdict, NO, SILENT, WORDS, YES};
-//!
-//! let mut ledger = [0u16; WORDS];
-//! open(&mut ledger, Setting { k: 5, a: 3, beta1: 1, beta2: 2, edition: 0 })?;
-//! book(&mut ledger, 1, 7, &[0])?;
-//!
-//! let mut tally = Tally::default(); // empty: a new one for each poll
-//! let mut votes = [SILENT; 5]; // until they are heard
-//! for (place, vote) in [(4, YES), (1, NO), (0, YES), (2, YES), (3, NO)] {
-//!     let verdict = tally.take_vote(5, 3, place, vote)?;
-//!     votes[usize::from(place)] = vote;
-//!     if verdict != Verdict::Undecided {
-//!         break; // at the third yes; nobody waits for place 3
-//!     }
-//! }
-//! assert_eq!((tally.yes, tally.no, tally.silent, tally.places), (3, 1, 0, 0b10111));
-//! assert_eq!(votes, [YES, NO, YES, SILENT, YES]);
-//!
-//! let mut all_heard = ledger;
-//! poll(&mut ledger, 1, &votes)?;
-//! poll(&mut all_heard, 1, &[YES, NO, YES, NO, YES])?;
-//! assert_eq!(ledger, all_heard);
-//! # Ok::<(), Refusal>(())
-//! ```
-//!
-//! A tally knows of no ledger: `k` and `a` come with each vote, and have to be the ledger's own each time. `docs/TALLY.md` of the
-//! repository says why the outcome is the same.
 #![no_std]
 #![warn(missing_docs)]
 
@@ -396,55 +359,6 @@ pub enum Form {
     First,
     /// The same, and who is accepted. The one to send to a neighbour.
     Second,
-}
-
-/// The votes of one poll as far as they have come: how many of each kind, and which places are filled. `Tally::default()` is
-/// empty, as each poll begins. See [the tally](crate#the-tally).
-///
-/// It isn't `Copy`, so that no vote goes into a copy by oversight.
-#[derive(Clone, Debug, Default, PartialEq, Eq, Hash)]
-pub struct Tally {
-    /// How many votes are [`YES`].
-    pub yes: u16,
-    /// How many are [`NO`].
-    pub no: u16,
-    /// How many are [`SILENT`]: stations of which it is certain that no answer comes. Those that may still answer are places left.
-    pub silent: u16,
-    /// Which places are filled: bit i is place i, the lowest bit place 0.
-    pub places: u64,
-}
-
-/// What the votes in a [`Tally`] say about the whole poll.
-#[derive(Clone, Copy, Debug, PartialEq, Eq, Hash)]
-pub enum Verdict {
-    /// It depends on the places left.
-    Undecided,
-    /// At least `a` votes are yes.
-    Success,
-    /// Fewer than `a` would be yes, even with a yes in every place left.
-    Failure,
-}
-
-impl Tally {
-    /// Takes one vote, [`YES`], [`NO`] or [`SILENT`], with its place from 0 to k − 1: its count rises by one, and its place is
-    /// filled. The verdict is that of the tally with this vote. If it is refused, the tally stays.
-    ///
-    /// Begin with an empty tally, and give the same `k` and `a` with each vote. Then [`Success`](Verdict::Success) and
-    /// [`Failure`](Verdict::Failure) are final: no later vote changes them, and [`poll`] in a ledger with this `k` and `a`
-    /// decides so, however the rest vote. Votes that come later are still taken. With another `k` or `a` on the way none of
-    /// this is promised.
-    ///
-    /// Refuses [`BadSetting`](Refusal::BadSetting), [`BadTally`](Refusal::BadTally), [`BadPlace`](Refusal::BadPlace),
-    /// [`PlaceFilled`](Refusal::PlaceFilled), [`BadVote`](Refusal::BadVote), in this order.
-    pub fn take_vote(&mut self, k: u16, a: u16, place: u16, vote: u8) -> Result<Verdict, Refusal> {
-        face::take_vote(self, k, a, place, vote).map(|value| match value {
-            0 => Verdict::Undecided,
-            1 => Verdict::Success,
-            2 => Verdict::Failure,
-            // The library is proved to give no other.
-            other => unreachable!("the verdict {other}"),
-        })
-    }
 }
 
 /// Makes the words a ledger that has only the genesis: name 0 in slot 0, accepted. Whatever they held before is gone.

@@ -12,7 +12,7 @@ pub enum Refusal {
     WrongLength,
     /// The words' header breaks a rule: it was never opened, or something else wrote there.
     DamagedHeader,
-    /// The setting isn't [good](crate::Setting); of a tally, `k` and `a` aren't.
+    /// The setting isn't [good](crate::Setting).
     BadSetting,
     /// A booking has this name already. Name 0 always is the genesis.
     NameTaken,
@@ -51,13 +51,6 @@ pub enum Refusal {
     /// A file of the second form can't be [moved](crate::move_from) to the first, which would be read with other marks: others
     /// would be accepted.
     OtherMarks,
-    /// The place of a vote isn't below `k`.
-    BadPlace,
-    /// The [tally](crate::Tally) has a vote for this place already.
-    PlaceFilled,
-    /// The [tally](crate::Tally) is none of `k` places: a filled place isn't below `k`, or the three counts don't add up to the
-    /// number of filled places.
-    BadTally,
     /// No cell of the index is empty.
     IndexFull,
 }
@@ -85,9 +78,6 @@ impl Refusal {
             Refusal::BadFile => 17,
             Refusal::WrongIndex => 18,
             Refusal::OtherMarks => 19,
-            Refusal::BadPlace => 20,
-            Refusal::PlaceFilled => 21,
-            Refusal::BadTally => 26,
             Refusal::IndexFull => 27,
         }
     }
@@ -136,9 +126,6 @@ impl Refusal {
             (17, 0) => Refusal::BadFile,
             (18, 0) => Refusal::WrongIndex,
             (19, 0) => Refusal::OtherMarks,
-            (20, 0) => Refusal::BadPlace,
-            (21, 0) => Refusal::PlaceFilled,
-            (26, 0) => Refusal::BadTally,
             (27, 0) => Refusal::IndexFull,
             _ => return None,
         })
@@ -165,9 +152,6 @@ impl fmt::Display for Refusal {
             Refusal::BadFile => "the day file is not good",
             Refusal::WrongIndex => "the index has the wrong length",
             Refusal::OtherMarks => "the first form of the file would be read with other marks",
-            Refusal::BadPlace => "the place of the vote is not below k",
-            Refusal::PlaceFilled => "the place has its vote already",
-            Refusal::BadTally => "a filled place of the tally is not below k, or its counts do not add up",
             Refusal::IndexFull => "no cell of the index is empty",
             Refusal::DamagedRecord(512) => "an ordinal is missing in a full ledger (record 512)",
             Refusal::DamagedRecord(record) => {

@@ -1,6 +1,5 @@
 //! Each refusal on both sides of its border, in its order, with no word changed. Damage, 2, 14 and 15, has `damage.rs`, 16 has
-//! `day_file.rs`, 17 has `read_file.rs`, 18 and 27 have `index.rs`, 19 has `forms.rs`, with 16 and 17 for the second form, and 20, 21
-//! and 26 have `tally.rs`, with 3 and 13 for a tally.
+//! `day_file.rs`, 17 has `read_file.rs`, 18 and 27 have `index.rs`, and 19 has `forms.rs`, with 16 and 17 for the second form.
 use filzhammer::*;
 
 mod refused;
@@ -25,7 +24,7 @@ fn ledger() -> [u16; WORDS] {
 }
 
 /// Each refusal once, the rows by their greatest.
-const EACH: [Refusal; 23] = [
+const EACH: [Refusal; 20] = [
     Refusal::WrongLength,
     Refusal::DamagedHeader,
     Refusal::BadSetting,
@@ -45,17 +44,14 @@ const EACH: [Refusal; 23] = [
     Refusal::BadFile,
     Refusal::WrongIndex,
     Refusal::OtherMarks,
-    Refusal::BadPlace,
-    Refusal::PlaceFilled,
-    Refusal::BadTally,
     Refusal::IndexFull,
 ];
 
 #[test]
-fn the_numbers_are_1_to_21_26_and_27() {
+fn the_numbers_are_1_to_19_and_27() {
     assert_eq!(
         EACH.map(Refusal::number).to_vec(),
-        (1..=21).chain([26, 27]).collect::<Vec<u32>>()
+        (1..=19).chain([27]).collect::<Vec<u32>>()
     );
     for refusal in EACH {
         assert!(!refusal.to_string().is_empty());
@@ -106,12 +102,12 @@ fn number_and_value_lead_back() {
             assert_eq!(Refusal::from_answer(number, value), None);
         }
     }
-    for number in (1..=13).chain(16..=21).chain([26, 27]) {
+    for number in (1..=13).chain([16, 17, 18, 19, 27]) {
         for value in [-1, 1, 65536] {
             assert_eq!(Refusal::from_answer(number, value), None);
         }
     }
-    for number in [0, 22, 25, 28, u32::MAX] {
+    for number in [0, 20, 26, 28, u32::MAX] {
         assert_eq!(Refusal::from_answer(number, 0), None);
     }
 }

@@ -38,10 +38,10 @@ or_one zero h = refl
 or_one (suc zero) h = refl
 or_one (suc (suc n)) h = absurd (omega arith)
 
-pub bit_in_set_same : (a r : ℕ) → bit_in (bit_or a (2 ^ r)) r ≡ 1
+bit_in_set_same : (a r : ℕ) → bit_in (bit_or a (2 ^ r)) r ≡ 1
 bit_in_set_same a r = bit_in_or a (2 ^ r) r ∙ ap (bit_or (bit_in a r)) (bit_in_power_same r) ∙ or_one (bit_in a r) (omega arith)
 
-pub bit_in_set_other : (a r k : ℕ) → k ≢ r → bit_in (bit_or a (2 ^ r)) k ≡ bit_in a k
+bit_in_set_other : (a r k : ℕ) → k ≢ r → bit_in (bit_or a (2 ^ r)) k ≡ bit_in a k
 bit_in_set_other a r k d = bit_in_or a (2 ^ r) k ∙ ap (bit_or (bit_in a k)) (bit_in_power_other r k d) ∙ or_zero_r (bit_in a k)
 
 -- ---- a row of words

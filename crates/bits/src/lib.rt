@@ -1,7 +1,6 @@
 // Bits, 64 to a word. In a row of words no bit is set past the end, and setting one there changes nothing.
-ghost use Rattle.std.specs.Prelude.{◌≡◌, ◌&&◌, ◌+◌, ◌*◌, ◌/◌, ◌^◌, ◌<◌, ◌≤◌, min, eqb, leb, length};
+ghost use Rattle.std.specs.Prelude.{◌≡◌, ◌+◌, ◌*◌, ◌/◌, ◌^◌, ◌<◌, ◌≤◌, min, eqb, length};
 ghost use Rattle.std.specs.Int.Bits.{bit_or};
-ghost use Rattle.loops.specs.Search.{any};
 ghost use Rattle.loops.specs.Total.{count};
 ghost use Rattle.bits.specs.Bits.{bit_in, bit_at, with_bit, ones_in};
 ghost use Rattle.bits.specs.Members.{bit_words};
@@ -25,17 +24,6 @@ pub fn with_bit(word: u64, k: usize) -> u64
     ensures { result ≡ bit_or word (2 ^ k) }
 {
     word | (1u64 << k)
-}
-
-// Whether bit k of a word, or one above it, is set.
-pub fn has_bit_from(word: u64, k: usize) -> bool
-    requires { k ≤ 64 }
-    ensures { result ≡ any (λ i. eqb (bit_in word i) 1 && leb k i) 64 }
-{
-    if k == WORD_BITS {
-        return false;
-    }
-    word >> k != 0
 }
 
 // Whether bit j of a row of words is set.
@@ -68,7 +56,7 @@ pub fn word_end(j: usize, n: usize) -> usize
 }
 
 // How many bits of a word are set.
-pub fn ones(word: u64) -> usize
+fn ones(word: u64) -> usize
     ensures { (result ≡ ones_in word) × (result ≤ 64) }
 {
     u64::count_ones(word) as usize

@@ -25,9 +25,6 @@ use Rattle.terms.specs.declared.answer.Refusal.TheVariants.{
   BadFile,
   WrongIndex,
   OtherMarks,
-  BadPlace,
-  PlaceFilled,
-  BadTally,
   IndexFull,
 }
 use Rattle.terms.specs.declared.answer.Answer.TheVariants.{Taken, Refused}
@@ -58,10 +55,7 @@ refusals row =
     ∷ BadFile
     ∷ WrongIndex
     ∷ OtherMarks
-    ∷ BadPlace
-    ∷ PlaceFilled
-    ∷ replicate 4 WrongLength ++ BadTally
-    ∷ IndexFull
+    ∷ replicate 7 WrongLength ++ IndexFull
     ∷ []
 
 abbrev refusal_at : ℕ → ℤ → Refusal
@@ -87,9 +81,6 @@ found_again ShortBuffer = refl
 found_again BadFile = refl
 found_again WrongIndex = refl
 found_again OtherMarks = refl
-found_again BadPlace = refl
-found_again PlaceFilled = refl
-found_again BadTally = refl
 found_again IndexFull = refl
 
 pub answer_told : AnswerTold

@@ -42,7 +42,7 @@ abbrev pub lent : {X : Type 0} → X → Bor X
 lent x = record { ref_ptr = (0, 0); now = x }
 
 -- the number and the value of an answer are its own
-pub own : (a : Answer) → Returned a (number a) (value a)
+own : (a : Answer) → Returned a (number a) (value a)
 own a = record { numbered = refl; valued = refl }
 
 pub handed : (o : Outcome) → Handed o (number o.answer) (value o.answer) o.words

@@ -1,6 +1,5 @@
--- The public functions: the ledger's eleven, the index's three, the tally's two, and the C face's eighteen. Each by its own contract, which src/lib.rt passes on, and by
--- what its parameters mean. The three that move a file and the two that take a vote have no workspace and stand at the end, by themselves. The tally's
--- function on one that is lent has a reference to a struct, which a contract's plain reading does not cover: of it OfTally.antt has a law of its own.
+-- The public functions: the ledger's eleven, the index's three, and the C face's seventeen. Each by its own contract, which src/lib.rt passes on, and by what its
+-- parameters mean. The three that move a file have no workspace and stand at the end, by themselves.
 use Prim.Native.Nat.{ℕ}
 use mathlib.Core.List.{List, []}
 use lib.IntN.{ℤ}
@@ -14,10 +13,7 @@ use Rattle.promises.specs.Run.{Call, Open, Book, Poll, Ask, WriteFile, ReadFile,
 use Rattle.terms.specs.Setting.{setting_of}
 use Rattle.code_promises.specs.Contract.{contract_of, left}
 use Rattle.code_promises.specs.OfCode.{Done, Function}
-use Rattle.vote_tally.specs.declared.count.Tally.{Tally}
-use Rattle.vote_tally.specs.Tally.{tally_of}
 use Rattle.code_promises.specs.OfMoves.{Mover}
-use Rattle.code_promises.specs.OfTally.{Tallier}
 use Rattle.code_promises.proofs as code
 
 pub data Name : Type 0 where
@@ -257,41 +253,3 @@ moves_of_ledger form = by_move_file
 abbrev pub moves_of_station : Form → MoverName
 moves_of_station First = by_filz_move_first
 moves_of_station Second = by_filz_move_second
-
--- ---- a vote has a tally and no workspace
-
-pub data TallierName : Type 0 where
-  by_count_vote : TallierName
-  by_filz_tally : TallierName
-
-abbrev pub tallier : TallierName → Tallier
-tallier by_count_vote = record {
-  contract = contract_of 0 code.count_vote.Kinds.ps code.count_vote.Kinds.r code.count_vote.Reads.Asked code.count_vote.Reads.Learnt;
-  done = λ m. record {
-    before = m.given.0;
-    k = m.given.1.0;
-    a = m.given.1.1.0;
-    place = m.given.1.1.1.0;
-    byte = m.given.1.1.1.1.0;
-    number = number m.returned.answer;
-    value = value m.returned.answer;
-    after = m.returned.tally;
-  };
-}
--- yes, no, silent and places are lent one by one, then come k, a, the place, the byte, and where the value goes
-tallier by_filz_tally = record {
-  contract = contract_of 5 code.filz_tally.Kinds.ps code.filz_tally.Kinds.r code.filz_tally.Reads.Asked code.filz_tally.Reads.Learnt;
-  done = λ m.
-      let g = m.given in
-      let l = left m in
-      record {
-        before = tally_of g.0.now g.1.0.now g.1.1.0.now g.1.1.1.0.now;
-        k = g.1.1.1.1.0;
-        a = g.1.1.1.1.1.0;
-        place = g.1.1.1.1.1.1.0;
-        byte = g.1.1.1.1.1.1.1.0;
-        number = m.returned;
-        value = l.1.1.1.1.1.1.1.1.0.now;
-        after = tally_of l.0.now l.1.0.now l.1.1.0.now l.1.1.1.0.now;
-      };
-}

@@ -5,4 +5,3 @@ pub mod Lawful
 pub mod Answers
 pub mod OfCode
 pub mod OfMoves
-pub mod OfTally

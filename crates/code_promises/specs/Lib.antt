@@ -2,4 +2,3 @@
 pub mod Contract
 pub mod OfCode
 pub mod OfMoves
-pub mod OfTally

@@ -7,6 +7,5 @@ pub use ledger::{
 pub use station::{
     filz_accepted, filz_book, filz_confidence, filz_index_build, filz_index_enter, filz_index_find,
     filz_lead, filz_move_first, filz_move_second, filz_open, filz_poll, filz_query,
-    filz_read_first, filz_read_second, filz_size, filz_tally, filz_write_first, filz_write_second,
+    filz_read_first, filz_read_second, filz_size, filz_write_first, filz_write_second,
 };
-pub use tally::{count_vote, take_vote};

@@ -26,7 +26,7 @@ use Rattle.day_judge.proofs.Rows.{number_read_lem}
 good_fits : (s : Setting) → is_good s ≡ true → SettingFits s
 good_fits s good =
     let rules = is_good→Good s good in
-    record { k = omega (arith, rules.votes); a = omega (arith, rules.votes); beta1 = omega (arith, rules); beta2 = omega (arith, rules); edition = omega (arith, rules) }
+    record { k = omega (arith, rules); a = omega (arith, rules); beta1 = omega (arith, rules); beta2 = omega (arith, rules); edition = omega (arith, rules) }
 
 -- what is left behind it stands where its section ends
 pub setting_left : (file : List ℕ) → SettingGood file → (read_setting file).rest ≡ drop (setting_end file) file

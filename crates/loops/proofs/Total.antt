@@ -1,6 +1,6 @@
 -- Laws of sums, counts and the greatest: one turn more, bounds, and sums of equal or growing parts.
 use mathlib.Core.Path.{◌≡◌, refl, sym, ap, ap₂, ◌∙◌}
-use mathlib.Core.Bool.{Bool, true, false, not, ◌&&◌, ◌||◌, or-false}
+use mathlib.Core.Bool.{Bool, true, false, not, ◌||◌, or-false}
 use mathlib.Core.Logic.{◌≢◌, ◌⊎◌, inl, inr, ⊎_elim}
 use Prim.Native.Nat.{ℕ, zero, suc, ◌+◌, max, ◌<◌, ◌≤◌}
 use native.Mathlib.Numerals.{add-one}
@@ -172,19 +172,6 @@ count_lt_two p n i j li lj d fi fj =
     let more : count q n ≡ count p n + 1 =
     total_other (λ k. bit (p k)) (λ k. bit (q k)) n i 1 li (rw (fi, eq-eqb i i refl)) (λ k l e. rw (ne_eqb k i e, or-false)) in
     omega (arith, count_lt q n j lj (rw (fj, ne_eqb j i (λ e. d (sym e)))))
-
--- those that pass one test and those that pass another, but for those that pass both, are no more than there are
-pub count_both : (p q : ℕ → Bool) (n : ℕ) → count p n + count q n ≤ count (λ i. p i && q i) n + n
-unfolding total
-count_both p q zero = omega arith
-count_both p q (suc n) = go (p n) (q n) (count_both p q n)
-  where
-    go : (a b : Bool) → count p n + count q n ≤ count (λ i. p i && q i) n + n
-        → count p n + bit a + (count q n + bit b) ≤ count (λ i. p i && q i) n + bit (a && b) + suc n
-    go true true h = omega arith
-    go true false h = omega arith
-    go false true h = omega arith
-    go false false h = omega arith
 
 -- ---- numbers that have a value: no fewer than the values
 

@@ -36,6 +36,3 @@ pub mod ReadFile
 pub mod MoveFile
 pub mod NameIndex
 pub mod Refusals
-pub mod TallyRuns
-pub mod TallyClosed
-pub mod Tally

@@ -26,16 +26,13 @@ use Rattle.day_file.specs.Bytes.{day_file, file_of}
 use Rattle.day_file.specs.Calls.{words_in}
 use Rattle.day_file.proofs.Lengths.{edition_length_most, day_file_least, day_file_most}
 use Rattle.name_index.proofs.Probing.{found_of}
-use Rattle.terms.specs.Votes.{vote_of}
-use Rattle.vote_tally.specs.Tally.{with_vote, verdict}
-use Rattle.vote_tally.proofs.Tallies.{verdict_says}
 use Rattle.promises.specs.Run.{outcome_of}
 use Rattle.promises.specs.Damage.{NamesDamage}
 use Rattle.promises.specs.DayFile.{least_file, most_file, SecondLength}
 use Rattle.promises.specs.MoveFile.{other_form}
 use Rattle.promises.specs.Ranges.{Between, Ranges}
 use Rattle.promises.proofs.Damage.{damage_named}
-use Rattle.promises.proofs.Taken.{reading_taken, write_taken, read_value, move_taken, move_number, build_taken, enter_taken, find_taken, tally_taken, tally_answered}
+use Rattle.promises.proofs.Taken.{reading_taken, write_taken, read_value, move_taken, move_number, build_taken, enter_taken, find_taken}
 use Rattle.promises.proofs.SecondForm.{second_length}
 use Rattle.promises.proofs.Forms.{made_ledger}
 use Rattle.promises.proofs.MoveFile.{moved_is}
@@ -124,8 +121,4 @@ ranges = record {
       let found = find_taken w index name taken in
       let of = found_of w index name found.0 found.2 found.3 in
       rw found.4 (between _ _ found.0 (omega arith) (omega (arith, of.0, found.1.sound.bookings_most)));
-  tallying_numbers = λ t k a place byte. (tally_answered t k a place byte).0;
-  tallying = λ t k a place byte taken.
-      let u = with_vote place (vote_of byte) t in
-      rw (ap (λ o. value o.answer) (tally_taken t k a place byte taken).1) (between _ _ (verdict k a u) (omega arith) (verdict_says k a u).most);
 }

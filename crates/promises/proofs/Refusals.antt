@@ -21,7 +21,7 @@ use Rattle.terms.specs.declared.answer.Answer.TheVariants.{Refused}
 use Rattle.terms.specs.declared.vote.Vote.{Vote}
 use Rattle.terms.specs.Answers.{refusal_number, number, value, done}
 use Rattle.rules.specs.Layout.{size, slots, most_parents, most_bookings, bookings, setting_in, state_of}
-use Rattle.terms.specs.Setting.{GoodVotes, votes_good, Good, is_good}
+use Rattle.terms.specs.Setting.{Good, is_good}
 use Rattle.rules.specs.IsSound.{header_good, record_row, record_rows, bad_record, slot_good, bad_slot}
 use Rattle.rules.specs.RowRules.{HeaderRules, RecordRules, SlotRules}
 use Rattle.rules.specs.Sound.{Sound}
@@ -56,20 +56,15 @@ use Rattle.name_index.specs.Index.{cells, look_up_in, is_full, newest, with_numb
 use Rattle.name_index.specs.AsRead.{NameMet, NoneEmpty}
 use Rattle.name_index.specs.Calls.{is_wrong_index, index_tested, enter_answer, index_build_call, index_enter_call, index_find_call}
 use Rattle.name_index.proofs.Probing.{full→none, none→full, At_absent, met_found, found_met}
-use Rattle.vote_tally.specs.declared.count.Tally.{Tally}
-use Rattle.vote_tally.specs.Tally.{is_filled, is_bad_tally, with_vote}
-use Rattle.vote_tally.specs.AsRead.{BadTally}
-use Rattle.vote_tally.specs.Calls.{tally_answer, tally_call}
-use Rattle.vote_tally.proofs.AsRead.{is_bad→Bad_tally, BadTally→isBad}
 use Rattle.rule_laws.proofs.Calls.{leaves_answer, hands_over_answer, value_refused, open_refused, book_refused, poll_refused}
-use Rattle.rule_laws.proofs.Good.{votes_good→Good_votes, GoodVotes→votesGood, is_good→Good, Good→isGood}
+use Rattle.rule_laws.proofs.Good.{is_good→Good, Good→isGood}
 use Rattle.rule_laws.proofs.RowRules.{header_good→Rules, Rules→headerGood, record_row→Rules, Rules→recordRow, slot_good→Rules, Rules→slotGood}
 use Rattle.rule_laws.proofs.Sound.{tests→Sound}
 use Rattle.rule_laws.proofs.Tested.{damaged_in_order, tested_first_length, beside_in_order}
 use Rattle.rule_laws.proofs.Lookup.{found_below_lem, found_name, absent_name, found_is}
 use Rattle.promises.specs.Run.{Open, Book, Poll, Ask, WriteFile, ReadFile, IndexBuild, IndexEnter, IndexFind, outcome_of, lent_after}
 use Rattle.promises.specs.Damage.{Broken}
-use Rattle.promises.proofs.Taken.{write_words, write_refused, read_refused, build_words, build_refused, enter_words, enter_refused, tallies_answer}
+use Rattle.promises.proofs.Taken.{write_words, write_refused, read_refused, build_words, build_refused, enter_words, enter_refused}
 use Rattle.promises.specs.ReadFile.{GoodIn, GoodIsWritten}
 use Rattle.promises.proofs.ReadFile.{good_is_written}
 use Rattle.promises.specs.MoveFile.{OtherMarks}
@@ -81,7 +76,6 @@ use Rattle.promises.specs.Refusals.{
   ParentTwice,
   NotWaiting,
   BadVote,
-  BadByte,
   refuses,
   OpenListed,
   damaged_listed,
@@ -96,7 +90,6 @@ use Rattle.promises.specs.Refusals.{
   BuildListed,
   EnterListed,
   FindListed,
-  TallyListed,
   ListListed,
   RefusedListed,
 }
@@ -240,16 +233,13 @@ byte_decides byte =
     rw (vote_of_refused byte)
     (not_decides _ (either_decides _ _ (either_decides _ _ (equal_decides byte 1) (equal_decides byte 255)) (equal_decides byte 0)))
 
-one_decides : (byte : ℕ) → Decides (is_refused (vote_of byte)) (BadByte byte)
-one_decides byte = decides_by
-    (λ e. let bad = (byte_decides byte).passes e in (λ z. bad (inr z), λ z. bad (inl (inl z)), λ z. bad (inl (inr z))))
-    (λ b. told _ (byte_decides byte) (⊎_elim (⊎_elim b.1 b.2) b.0))
-
 vote_decides : (votes : List ℕ) → Decides (has_refused_vote votes) (BadVote votes)
 vote_decides votes =
     any_decides (λ a. is_refused (vote_of (get_or votes a 0))) (length votes)
-    (λ a h e. let bad = (one_decides (get_or votes a 0)).passes e in record { place = a; within = h; silent = bad.0; yes = bad.1; minus_one = bad.2 })
-    (λ b. (b.place, b.within, told _ (one_decides (get_or votes b.place 0)) (b.silent, b.yes, b.minus_one)))
+    (λ a h e.
+    let bad = (byte_decides (get_or votes a 0)).passes e in
+    record { place = a; within = h; silent = λ z. bad (inr z); yes = λ z. bad (inl (inl z)); minus_one = λ z. bad (inl (inr z)) })
+    (λ b. (b.place, b.within, told _ (byte_decides (get_or votes b.place 0)) (⊎_elim (⊎_elim b.yes b.minus_one) b.silent)))
 
 -- ---- a line of the list, off a test: the number is the refusal's where the test passes, and else the rest's
 
@@ -392,28 +382,6 @@ find_listed w index name =
     asked_first (look_up_in w index name) _ e (met_decides w index name sound whole) (λ i found e.
     e))
 
--- 3, by k and a alone
-votes_decide : (k a : ℕ) → Decides (not (votes_good k a)) (GoodVotes k a → ⊥)
-votes_decide k a = not_decides (votes_good k a) (decides_by (votes_good→Good_votes k a) (GoodVotes→votesGood k a))
-
--- 26
-tally_decides : (k : ℕ) (t : Tally) → Decides (is_bad_tally k t) (BadTally k t)
-tally_decides k t = decides_by (is_bad→Bad_tally k t) (BadTally→isBad k t)
-
--- 21: the case is the test
-filled_decides : (t : Tally) (place : ℕ) → Decides (is_filled t place) (is_filled t place ≡ true)
-filled_decides t place = decides_by (λ e. e) (λ e. e)
-
-tally_listed : (t : Tally) (k a place byte : ℕ) → TallyListed t k a place byte (number (tally_call t k a place byte).answer)
-unfolding tally_call
-tally_listed t k a place byte =
-    refused_first Refusal.BadSetting _ _ (ap number (tallies_answer (tally_answer t k a place byte) t (with_vote place (vote_of byte) t))) (votes_decide k a) (λ s e.
-    refused_first Refusal.BadTally _ _ e (tally_decides k t) (λ s e.
-    refused_first Refusal.BadPlace _ _ e (most_decides k place) (λ s e.
-    refused_first Refusal.PlaceFilled _ _ e (filled_decides t place) (λ s e.
-    refused_first Refusal.BadVote _ _ e (one_decides byte) (λ s e.
-    e)))))
-
 list_listed : (w : List ℕ) → ListListed w (number (list_call w))
 unfolding list_call
 list_listed w = tested_first w done refl (λ sound e. e)
@@ -431,6 +399,5 @@ refused_listed =
       building = build_listed;
       entering = enter_listed;
       finding = find_listed;
-      tallying = tally_listed;
       list = list_listed;
     }

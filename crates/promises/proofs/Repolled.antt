@@ -53,8 +53,8 @@ yes_none n =
 
 -- the votes for an outcome bring it about
 pub votes_decide : (w : List ℕ) → Good (setting_in w) → (success : Bool) → is_success w (votes_for w success) ≡ success
-votes_decide w good true = le-leb (setting_in w).a (yes_votes (votes_for w true)) (omega (arith, yes_all (setting_in w).k, good.votes.needed_most))
-votes_decide w good false = lt-leb (setting_in w).a (yes_votes (votes_for w false)) (omega (arith, yes_none (setting_in w).k, good.votes.majority))
+votes_decide w good true = le-leb (setting_in w).a (yes_votes (votes_for w true)) (omega (arith, yes_all (setting_in w).k, good.needed_most))
+votes_decide w good false = lt-leb (setting_in w).a (yes_votes (votes_for w false)) (omega (arith, yes_none (setting_in w).k, good.majority))
 
 -- ---- a taken one
 

@@ -1,5 +1,5 @@
 -- What a taken call has passed: each of its tests failed, so the fact that each refusal would deny holds, and its words are the rule's.
--- What a refused call leaves: every word, every byte and cell, and the tally. What writing a file and the calls about an index leave in any case: every word. Assumes nothing.
+-- What a refused call leaves: every word, and every byte and cell. What writing a file and the calls about an index leave in any case: every word. Assumes nothing.
 use mathlib.Core.Path.{◌≡◌, refl, sym, ap, ◌∙◌}
 use mathlib.Core.Bool.{Bool, true, false, not, cond, true≢false}
 use mathlib.Core.List.{List}
@@ -9,7 +9,7 @@ use native.Mathlib.Omega.{arith}
 use lib.IntN.{ℤ, pos}
 use lib.ListN.{length, get_or}
 use lib.Dec.{eqb, leb, ltb}
-use borrow.Author.Tests.{eqb-true, eq-eqb, eqb-false, leb-false, lt-leb, ltb-false, le-ltb, not-false}
+use borrow.Author.Tests.{eqb-true, eq-eqb, eqb-false, leb-false, ltb-false, le-ltb, not-false}
 use Rattle.loops.proofs.Bools.{neither}
 use Rattle.loops.specs.Search.{any}
 use Rattle.loops.proofs.Search.{none→}
@@ -24,8 +24,7 @@ use Rattle.terms.specs.declared.answer.Answer.{Answer}
 use Rattle.terms.specs.declared.answer.Answer.TheVariants.{Taken, Refused}
 use Rattle.terms.specs.Answers.{number, value, outcome, leaves, handover, hands_over, is_taken, done}
 use Rattle.rules.specs.Layout.{size, most_bookings, most_parents, slots, bookings, name_of, state_of, slot_of, confidence_of, preferred_in}
-use Rattle.terms.specs.Setting.{GoodVotes, Good, votes_good}
-use Rattle.terms.specs.Votes.{vote_of, is_refused}
+use Rattle.terms.specs.Setting.{Good}
 use Rattle.rules.specs.Sound.{Ledger}
 use Rattle.rules.specs.Open.{opened}
 use Rattle.rules.specs.Book.{look_up, number_of, has_unknown, has_twice, booked}
@@ -37,12 +36,8 @@ use Rattle.day_file.specs.Calls.{laid, write_file_answer, write_file_call, good_
 use Rattle.name_index.specs.Index.{cells, look_up_in, is_full, newest, with_number, built}
 use Rattle.name_index.specs.Calls.{index_tested, enter_answer, index_build_call, index_enter_call, index_find_call}
 use Rattle.name_index.proofs.Tested.{beside_index, fine_index}
-use Rattle.vote_tally.specs.declared.count.Tally.{Tally}
-use Rattle.vote_tally.specs.Tally.{is_filled, is_bad_tally, with_vote, verdict}
-use Rattle.vote_tally.specs.Calls.{tally_answer, tallied, tallies, tally_call}
-use Rattle.vote_tally.proofs.Tallies.{Fine as FineTally, fine, fine_is, vote_taken}
 use Rattle.rule_laws.proofs.Calls.{Unmoved, poll_value, leaves_answer, leaves_refused, hands_over_answer, hands_over_words, hands_over_refused, number_refused, open_refused, book_refused, poll_refused}
-use Rattle.rule_laws.proofs.Good.{is_good→Good, votes_good→Good_votes, GoodVotes→votesGood}
+use Rattle.rule_laws.proofs.Good.{is_good→Good}
 use Rattle.rule_laws.proofs.Tested.{fine_ledger}
 use Rattle.rule_laws.proofs.Lookup.{is_found_false, absent_name, found_below_lem}
 
@@ -61,14 +56,6 @@ pub record Bookable (w : List ℕ) (name slot : ℕ) (parents : List ℕ) : Type
 pub record Pollable (w : List ℕ) (i : ℕ) : Type 0 where
   pub below : i < bookings w
   pub waiting : state_of w i ≡ 0
-
--- a vote that may be counted
-pub record Castable (t : Tally) (k a place byte : ℕ) : Type 0 where
-  pub votes : GoodVotes k a
-  pub whole : FineTally k t
-  pub within : place < k
-  pub free : is_filled t place ≡ false
-  pub plain : is_refused (vote_of byte) ≡ false
 
 -- no rival has more confidence than the preferred one
 abbrev pub Led : List ℕ → Type 0
@@ -360,75 +347,3 @@ find_taken w index name = go (index_find_call w index name) refl
         let found = asked_passed (look_up_in w index name) _ right.2 in
         (number_of (look_up_in w index name), right.0, right.1, found.0, sym found.1)
     go (Refused r) e z = absurd (number_refused r z)
-
--- ---- a vote, taken and refused
-
-pub tallies_answer : (a : Answer) (before after : Tally) → (tallies a before after).answer ≡ a
-tallies_answer (Taken v) before after = refl
-tallies_answer (Refused r) before after = refl
-
-tallies_taken : (a : Answer) (before after : Tally) → number (tallies a before after).answer ≡ 0
-    → (v : ℤ) × (a ≡ Taken v) × (tallies a before after ≡ tallied (Taken v) after)
-tallies_taken (Taken v) before after e = (v, refl, refl)
-tallies_taken (Refused r) before after e = absurd (number_refused r e)
-
-tallies_refused : (a : Answer) (before after : Tally) → number (tallies a before after).answer ≢ 0
-    → (r : Refusal) × (tallies a before after ≡ tallied (Refused r) before)
-tallies_refused (Taken v) before after n = absurd (n refl)
-tallies_refused (Refused r) before after n = (r, refl)
-
-module _ (t : Tally) (k a place byte : ℕ) where
-  abbrev counted : Tally
-  counted = with_vote place (vote_of byte) t
-
-  pub tally_taken : number (tally_call t k a place byte).answer ≡ 0
-      → Castable t k a place byte × (tally_call t k a place byte ≡ tallied (Taken (pos (verdict k a counted))) counted)
-  unfolding tally_call
-  tally_taken e =
-      let taken = tallies_taken (tally_answer t k a place byte) t counted e in
-      let good = passed (not (votes_good k a)) _ _ taken.1 in
-      let whole = passed (is_bad_tally k t) _ _ good.1 in
-      let within = passed (leb k place) _ _ whole.1 in
-      let free = passed (is_filled t place) _ _ within.1 in
-      let plain = passed (is_refused (vote_of byte)) _ _ free.1 in (
-        record {
-          votes = votes_good→Good_votes k a (not-false _ good.0);
-          whole = fine k t whole.0;
-          within = leb-false k place within.0;
-          free = free.0;
-          plain = plain.0;
-        },
-        taken.2 ∙ ap (λ x. tallied x counted) (sym plain.1),
-      )
-
-  pub tally_given : Castable t k a place byte → tally_call t k a place byte ≡ tallied (Taken (pos (verdict k a counted))) counted
-  tally_given c = vote_taken t k a place byte (GoodVotes→votesGood k a c.votes) (fine_is k t c.whole) (lt-leb k place c.within) c.free c.plain
-
-  pub tally_kept : number (tally_call t k a place byte).answer ≢ 0 → (r : Refusal) × (tally_call t k a place byte ≡ tallied (Refused r) t)
-  unfolding tally_call
-  tally_kept = tallies_refused (tally_answer t k a place byte) t counted
-
-  -- no number is above 26, refused it has value 0, and 26 is for a bad tally alone
-  pub tally_answered : let r = (tally_call t k a place byte).answer in (number r ≤ 26) × (number r ≢ 0 → value r ≡ pos 0) × (number r ≡ 26 → is_bad_tally k t ≡ true)
-  unfolding tally_call
-  tally_answered =
-      rw (tallies_answer (tally_answer t k a place byte) t counted)
-      (go (not (votes_good k a)) (is_bad_tally k t) (leb k place) (is_filled t place) (is_refused (vote_of byte)))
-    where
-      answer : Bool → Bool → Bool → Bool → Bool → Answer
-      answer setting bad past there foul =
-          cond setting (Refused Refusal.BadSetting)
-          (cond bad (Refused Refusal.BadTally)
-          (cond past (Refused Refusal.BadPlace)
-          (cond there (Refused Refusal.PlaceFilled)
-          (cond foul (Refused Refusal.BadVote)
-          (Taken (pos (verdict k a counted)))))))
-
-      go : (setting bad past there foul : Bool)
-          → let r = answer setting bad past there foul in (number r ≤ 26) × (number r ≢ 0 → value r ≡ pos 0) × (number r ≡ 26 → bad ≡ true)
-      go true bad past there foul = (omega arith, λ n. refl, λ e. absurd (omega arith))
-      go false true past there foul = (omega arith, λ n. refl, λ e. refl)
-      go false false true there foul = (omega arith, λ n. refl, λ e. absurd (omega arith))
-      go false false false true foul = (omega arith, λ n. refl, λ e. absurd (omega arith))
-      go false false false false true = (omega arith, λ n. refl, λ e. absurd (omega arith))
-      go false false false false false = (omega arith, λ n. absurd (n refl), λ e. absurd (omega arith))

@@ -13,4 +13,3 @@ pub mod ReadFile
 pub mod MoveFile
 pub mod NameIndex
 pub mod Refusals
-pub mod Tally

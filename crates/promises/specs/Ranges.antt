@@ -5,8 +5,6 @@ use Rattle.rules.specs.Calls.{query_call, accepted_call, lead_call, confidence_c
 use Rattle.terms.specs.declared.form.Form.{Form}
 use Rattle.day_file.specs.Calls.{write_file_call, read_file_call, move_file_call}
 use Rattle.name_index.specs.Calls.{index_build_call, index_enter_call, index_find_call}
-use Rattle.vote_tally.specs.declared.count.Tally.{Tally}
-use Rattle.vote_tally.specs.Calls.{tally_call}
 use Rattle.promises.specs.Run.{Call, outcome_of}
 use Rattle.promises.specs.DayFile.{least_file, most_file}
 use Rattle.promises.specs.MoveFile.{other_form}
@@ -18,8 +16,8 @@ pub record Between (least most : ℕ) (z : ℤ) : Type 0 where
   pub above : least ≤ number
   pub below : number ≤ most
 
--- the answers of any call on any words. A refusal's value is 0 or a row; each taken reading, the length of a file written or moved, a
--- number looked up and a verdict have their ranges; a file is read, and an index built and entered in, with value 0
+-- the answers of any call on any words. A refusal's value is 0 or a row; each taken reading, the length of a file written or moved and a
+-- number looked up have their ranges; a file is read, and an index built and entered in, with value 0
 pub record Ranges : Type 0 where
   pub numbers : (c : Call) (w : List ℕ) → number (outcome_of c w).answer ≤ 27
   pub refused : (c : Call) (w : List ℕ) → number (outcome_of c w).answer ≢ 0 → Between 0 512 (value (outcome_of c w).answer)
@@ -37,5 +35,3 @@ pub record Ranges : Type 0 where
   pub building : (w index : List ℕ) → number (index_build_call w index).answer ≡ 0 → value (index_build_call w index).answer ≡ pos 0
   pub entering : (w index : List ℕ) → number (index_enter_call w index).answer ≡ 0 → value (index_enter_call w index).answer ≡ pos 0
   pub finding : (w index : List ℕ) (name : ℕ) → number (index_find_call w index name) ≡ 0 → Between 0 511 (value (index_find_call w index name))
-  pub tallying_numbers : (t : Tally) (k a place byte : ℕ) → number (tally_call t k a place byte).answer ≤ 26
-  pub tallying : (t : Tally) (k a place byte : ℕ) → number (tally_call t k a place byte).answer ≡ 0 → Between 0 2 (value (tally_call t k a place byte).answer)

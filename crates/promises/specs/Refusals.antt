@@ -1,11 +1,11 @@
--- Each refusal comes exactly in its listed case, the first in the order, and changes no word, no byte and no cell; one of a vote leaves the tally (Tally.antt). Its value is 0, or with 14 and 15 a row (Damage.antt).
-use Rattle.std.specs.Prelude.{◌≡◌, true, List, ◌≢◌, ◌⊎◌, ℕ, ◌<◌, ◌≤◌, pos, length, get_or}
+-- Each refusal comes exactly in its listed case, the first in the order, and changes no word, no byte and no cell. Its value is 0, or with 14 and 15 a row (Damage.antt).
+use Rattle.std.specs.Prelude.{◌≡◌, List, ◌≢◌, ◌⊎◌, ℕ, ◌<◌, ◌≤◌, pos, length, get_or}
 use Rattle.terms.specs.declared.setting.Setting.{Setting}
 use Rattle.terms.specs.declared.answer.Reading.{Reading}
 use Rattle.terms.specs.declared.form.Form.{Form}
 use Rattle.terms.specs.Answers.{number, value}
 use Rattle.rules.specs.Layout.{size, slots, most_parents, most_bookings, bookings, setting_in, name_of, state_of}
-use Rattle.terms.specs.Setting.{GoodVotes, Good}
+use Rattle.terms.specs.Setting.{Good}
 use Rattle.rules.specs.IsSound.{record_rows}
 use Rattle.rules.specs.RowRules.{HeaderRules, RecordRules, SlotRules}
 use Rattle.rules.specs.Calls.{open_call, book_call, poll_call, read_call}
@@ -15,10 +15,6 @@ use Rattle.day_file.specs.Calls.{moved_in, write_file_call, read_file_call, move
 use Rattle.name_index.specs.Index.{cells}
 use Rattle.name_index.specs.AsRead.{NameMet, NoneEmpty}
 use Rattle.name_index.specs.Calls.{index_build_call, index_enter_call, index_find_call}
-use Rattle.vote_tally.specs.declared.count.Tally.{Tally}
-use Rattle.vote_tally.specs.Tally.{is_filled}
-use Rattle.vote_tally.specs.AsRead.{BadTally}
-use Rattle.vote_tally.specs.Calls.{tally_call}
 use Rattle.promises.specs.Run.{Call, outcome_of, lent_by, lent_after}
 use Rattle.promises.specs.Damage.{Broken}
 use Rattle.promises.specs.ReadFile.{GoodIn}
@@ -69,10 +65,6 @@ pub record BadVote (votes : List ℕ) : Type 0 where
   pub silent : get_or votes place 0 ≢ 0
   pub yes : get_or votes place 0 ≢ 1
   pub minus_one : get_or votes place 0 ≢ 255
-
--- one vote byte is none of these
-abbrev pub BadByte : ℕ → Type 0
-BadByte byte = (byte ≢ 0) × (byte ≢ 1) × (byte ≢ 255)
 
 -- ---- the first that applies is given
 
@@ -180,16 +172,6 @@ FindListed w index name =
     (refuses 10 (NameMet w index name → ⊥)
     taken)
 
--- 3: k or a is out of its range. 26: the tally is none of k places (vote_tally/specs/AsRead.antt). 20: the place isn't below k. 21: it is filled. 13: the byte is no vote
-abbrev pub TallyListed : Tally → (k a place byte : ℕ) → ℕ → Type 0
-TallyListed t k a place byte =
-    refuses 3 (GoodVotes k a → ⊥)
-    (refuses 26 (BadTally k t)
-    (refuses 20 (k ≤ place)
-    (refuses 21 (is_filled t place ≡ true)
-    (refuses 13 (BadByte byte)
-    taken))))
-
 -- list may be refused with 1, 2, 14 or 15 only
 abbrev pub ListListed : List ℕ → ℕ → Type 0
 ListListed w =
@@ -207,5 +189,4 @@ pub record RefusedListed : Type 0 where
   pub building : (w index : List ℕ) → BuildListed w index (number (index_build_call w index).answer)
   pub entering : (w index : List ℕ) → EnterListed w index (number (index_enter_call w index).answer)
   pub finding : (w index : List ℕ) (name : ℕ) → FindListed w index name (number (index_find_call w index name))
-  pub tallying : (t : Tally) (k a place byte : ℕ) → TallyListed t k a place byte (number (tally_call t k a place byte).answer)
   pub list : (w : List ℕ) → ListListed w (number (list_call w))

@@ -29,9 +29,6 @@ use Rattle.terms.specs.declared.answer.Refusal.TheVariants.{
   BadFile,
   WrongIndex,
   OtherMarks,
-  BadPlace,
-  PlaceFilled,
-  BadTally,
   IndexFull,
 }
 use Rattle.terms.specs.declared.answer.Found.{Found}
@@ -66,9 +63,6 @@ refusal_number_within ShortBuffer = omega arith
 refusal_number_within BadFile = omega arith
 refusal_number_within WrongIndex = omega arith
 refusal_number_within OtherMarks = omega arith
-refusal_number_within BadPlace = omega arith
-refusal_number_within PlaceFilled = omega arith
-refusal_number_within BadTally = omega arith
 refusal_number_within IndexFull = omega arith
 
 pub number_refused : (r : Refusal) → number (Refused r) ≢ 0
@@ -120,9 +114,6 @@ row_other ShortBuffer h k = refl
 row_other BadFile h k = refl
 row_other WrongIndex h k = refl
 row_other OtherMarks h k = refl
-row_other BadPlace h k = refl
-row_other PlaceFilled h k = refl
-row_other BadTally h k = refl
 row_other IndexFull h k = refl
 
 -- the value of a refused call that names no row

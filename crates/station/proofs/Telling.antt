@@ -5,10 +5,7 @@ use mathlib.Core.List.{List}
 use lib.IntN.{ℤ}
 use Rattle.terms.specs.declared.answer.Answer.{Answer}
 use Rattle.terms.specs.Answers.{Outcome, outcome, Handover, handover, number, value}
-use Rattle.vote_tally.specs.declared.count.Tally.{Tally}
-use Rattle.vote_tally.specs.declared.count.Tallied.{Tallied}
-use Rattle.vote_tally.specs.Calls.{tallied}
-use Rattle.station.specs.Returned.{Returned, Handed, HandedOver, HandedTally}
+use Rattle.station.specs.Returned.{Returned, Handed, HandedOver}
 
 -- of a reading, whose call is an answer
 pub told_of : {a b : Answer} {r : ℕ} {v : ℤ} → a ≡ b → Returned a r v → Returned b r v
@@ -21,7 +18,3 @@ left_of e t = record { told = told_of (ap (λ o. o.answer) e) t; words = ap (λ 
 -- of a call with a second buffer, whose handover has bytes besides
 pub handed_of : {a : Answer} {w b : List ℕ} {o : Handover} {r : ℕ} {v : ℤ} → handover a w b ≡ o → Returned a r v → HandedOver o r v w b
 handed_of e t = record { told = told_of (ap (λ o. o.answer) e) t; words = ap (λ o. o.words) e; lent = ap (λ o. o.lent) e }
-
--- of a vote, whose call has a tally besides
-pub tally_of_lem : {a : Answer} {t : Tally} {o : Tallied} {r : ℕ} {v : ℤ} → tallied a t ≡ o → Returned a r v → HandedTally o r v t
-tally_of_lem e t = record { told = told_of (ap (λ o. o.answer) e) t; tally = ap (λ o. o.tally) e }

@@ -1,9 +1,7 @@
--- What the C face hands over of a call: its number, its value, and the words that it leaves; of one with a second buffer its bytes too; of a vote its tally.
+-- What the C face hands over of a call: its number, its value, and the words that it leaves; of one with a second buffer its bytes too.
 use Rattle.std.specs.Prelude.{ℕ, ◌≡◌, List, ℤ}
 use Rattle.terms.specs.declared.answer.Answer.{Answer}
 use Rattle.terms.specs.Answers.{Outcome, Handover, number, value}
-use Rattle.vote_tally.specs.declared.count.Tally.{Tally}
-use Rattle.vote_tally.specs.declared.count.Tallied.{Tallied}
 
 -- the number r returned and the value v written are those of the answer
 pub record Returned (a : Answer) (r : ℕ) (v : ℤ) : Type 0 where
@@ -20,8 +18,3 @@ pub record HandedOver (o : Handover) (r : ℕ) (v : ℤ) (w b : List ℕ) : Type
   pub told : Returned o.answer r v
   pub words : w ≡ o.words
   pub lent : b ≡ o.lent
-
--- and the tally t left is that of the vote's call
-pub record HandedTally (o : Tallied) (r : ℕ) (v : ℤ) (t : Tally) : Type 0 where
-  pub told : Returned o.answer r v
-  pub tally : t ≡ o.tally

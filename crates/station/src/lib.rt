@@ -5,15 +5,12 @@ ghost use Rattle.rules.specs.Calls.{open_call, book_call, poll_call, query_call,
 ghost use Rattle.terms.specs.declared.form.Form.TheVariants.{First, Second};
 ghost use Rattle.day_file.specs.Calls.{write_file_call, read_file_call, move_file_call};
 ghost use Rattle.name_index.specs.Calls.{index_build_call, index_enter_call, index_find_call};
-ghost use Rattle.vote_tally.specs.Tally.{tally_of};
-ghost use Rattle.vote_tally.specs.Calls.{tally_call};
-ghost use Rattle.station.specs.Returned.{Returned, Handed, HandedOver, HandedTally};
+ghost use Rattle.station.specs.Returned.{Returned, Handed, HandedOver};
 ghost use Rattle.terms.specs.Setting.{setting_of};
 
 use terms::answer::Answer;
 use terms::form::Form;
 use terms::setting::Setting;
-use vote_tally::count::Tally;
 
 // An answer as its number and its value.
 fn tell(answer: Answer, value: &mut i64) -> u32
@@ -179,39 +176,4 @@ pub extern "C" fn filz_index_find(ws: &[u16], index: &[u16], name: u64, value: &
     ensures { Returned (index_find_call ws.now index.now name) result value.new }
 {
     tell(index::find(ws, index, name), value)
-}
-
-// One vote of a poll more, in a tally whose four parts are lent one by one. Refusals 3, 26, 20, 21, 13.
-#[unsafe(no_mangle)]
-pub extern "C" fn filz_tally(
-    yes: &mut u16,
-    no: &mut u16,
-    silent: &mut u16,
-    places: &mut u64,
-    k: u16,
-    a: u16,
-    place: u16,
-    vote: u8,
-    value: &mut i64,
-) -> u32
-    ensures { HandedTally
-        (tally_call (tally_of yes.old no.old silent.old places.old) k a place vote)
-        result
-        value.new
-        (tally_of yes.new no.new silent.new places.new) }
-{
-    let tally = Tally {
-        yes: *yes,
-        no: *no,
-        silent: *silent,
-        places: *places,
-    };
-    let next = tally::count_vote(tally, k, a, place, vote);
-    let left = next.tally;
-    *yes = left.yes;
-    *no = left.no;
-    *silent = left.silent;
-    *places = left.places;
-    let answer = next.answer;
-    tell(answer, value)
 }

@@ -21,9 +21,6 @@ use Rattle.terms.specs.declared.answer.Refusal.TheVariants.{
   BadFile,
   WrongIndex,
   OtherMarks,
-  BadPlace,
-  PlaceFilled,
-  BadTally,
   IndexFull,
 }
 use Rattle.terms.specs.declared.answer.Answer.{Answer}
@@ -51,7 +48,4 @@ taken_by_number (Refused ShortBuffer) = refl
 taken_by_number (Refused BadFile) = refl
 taken_by_number (Refused WrongIndex) = refl
 taken_by_number (Refused OtherMarks) = refl
-taken_by_number (Refused BadPlace) = refl
-taken_by_number (Refused PlaceFilled) = refl
-taken_by_number (Refused BadTally) = refl
 taken_by_number (Refused IndexFull) = refl

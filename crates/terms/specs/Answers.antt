@@ -21,9 +21,6 @@ use Rattle.terms.specs.declared.answer.Refusal.TheVariants.{
   BadFile,
   WrongIndex,
   OtherMarks,
-  BadPlace,
-  PlaceFilled,
-  BadTally,
   IndexFull,
 }
 use Rattle.terms.specs.declared.answer.Answer.{Answer}
@@ -49,9 +46,6 @@ refusal_number ShortBuffer = 16
 refusal_number BadFile = 17
 refusal_number WrongIndex = 18
 refusal_number OtherMarks = 19
-refusal_number BadPlace = 20
-refusal_number PlaceFilled = 21
-refusal_number BadTally = 26
 refusal_number IndexFull = 27
 
 -- the lowest row that breaks a rule, where a record or a slot is damaged; 0 for every other refusal
@@ -75,9 +69,6 @@ refusal_row ShortBuffer = 0
 refusal_row BadFile = 0
 refusal_row WrongIndex = 0
 refusal_row OtherMarks = 0
-refusal_row BadPlace = 0
-refusal_row PlaceFilled = 0
-refusal_row BadTally = 0
 refusal_row IndexFull = 0
 
 -- a taken call returns 0 and its value, a refusal its number and its row

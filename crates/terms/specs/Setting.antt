@@ -10,27 +10,22 @@ setting_of k a beta1 beta2 edition = record { k = k; a = a; beta1 = beta1; beta2
 abbrev pub setting_numbers : Setting → List ℕ
 setting_numbers s = s.k ∷ s.a ∷ s.beta1 ∷ s.beta2 ∷ cond (eqb s.edition 0) [] (s.edition ∷ [])
 
--- 1 ≤ k ≤ 64, a ≤ k, 2 × a > k
-pub record GoodVotes (k a : ℕ) : Type 0 where
-  pub votes_least : 1 ≤ k
-  pub votes_most : k ≤ 64
-  pub needed_most : a ≤ k
-  pub majority : k < 2 * a
-
--- these, 1 ≤ β1 ≤ β2 ≤ 510, edition 0 or 1
+-- 1 ≤ k ≤ 64, a ≤ k, 2 × a > k, 1 ≤ β1 ≤ β2 ≤ 510, edition 0 or 1
 pub record Good (s : Setting) : Type 0 where
-  pub votes : GoodVotes s.k s.a
+  pub votes_least : 1 ≤ s.k
+  pub votes_most : s.k ≤ 64
+  pub needed_most : s.a ≤ s.k
+  pub majority : s.k < 2 * s.a
   pub beta_least : 1 ≤ s.beta1
   pub betas_rise : s.beta1 ≤ s.beta2
   pub beta_most : s.beta2 ≤ 510
   pub edition_most : s.edition ≤ 1
 
--- the same as tests
-abbrev pub votes_good : (k a : ℕ) → Bool
-votes_good k a = leb 1 k && leb k 64 && leb a k && ltb k (2 * a)
-
+-- the same as a test
 abbrev pub is_good : Setting → Bool
-is_good s = votes_good s.k s.a && leb 1 s.beta1 && leb s.beta1 s.beta2 && leb s.beta2 510 && leb s.edition 1
+is_good s =
+    leb 1 s.k && leb s.k 64 && leb s.a s.k && ltb s.k (2 * s.a) && leb 1 s.beta1 && leb s.beta1 s.beta2 && leb s.beta2 510
+    && leb s.edition 1
 
 -- k = 10, a = 8, β1 = 11, β2 = 150, by the first edition
 abbrev pub paper_setting : Setting

@@ -15,18 +15,6 @@ is_yes No = false
 is_yes Silent = false
 is_yes Refused = false
 
-abbrev pub is_no : Vote → Bool
-is_no Yes = false
-is_no No = true
-is_no Silent = false
-is_no Refused = false
-
-abbrev pub is_silent : Vote → Bool
-is_silent Yes = false
-is_silent No = false
-is_silent Silent = true
-is_silent Refused = false
-
 abbrev pub is_refused : Vote → Bool
 is_refused Yes = false
 is_refused No = false

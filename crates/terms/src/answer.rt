@@ -25,14 +25,11 @@ pub enum Refusal {
     BadFile,
     WrongIndex,
     OtherMarks,
-    BadPlace,
-    PlaceFilled,
-    BadTally,
     IndexFull,
 }
 
 // Every call answers so. Open, book, poll, reading a file, building an index and entering are taken with value 0, a file is written or moved with its length,
-// a name is looked up with its booking's number, and a vote is tallied with the verdict.
+// and a name is looked up with its booking's number.
 #[derive(Drop)]
 pub enum Answer {
     Taken(i64),
@@ -87,9 +84,6 @@ impl Refusal {
             Refusal::BadFile => 17,
             Refusal::WrongIndex => 18,
             Refusal::OtherMarks => 19,
-            Refusal::BadPlace => 20,
-            Refusal::PlaceFilled => 21,
-            Refusal::BadTally => 26,
             Refusal::IndexFull => 27,
         }
     }
@@ -118,9 +112,6 @@ impl Refusal {
             Refusal::BadFile => 0,
             Refusal::WrongIndex => 0,
             Refusal::OtherMarks => 0,
-            Refusal::BadPlace => 0,
-            Refusal::PlaceFilled => 0,
-            Refusal::BadTally => 0,
             Refusal::IndexFull => 0,
         }
     }

@@ -1,6 +1,6 @@
 // The setting of a ledger, its limits, and the paper's own.
 ghost use Rattle.std.specs.Prelude.{◌≡◌};
-ghost use Rattle.terms.specs.Setting.{is_good, votes_good, paper_setting};
+ghost use Rattle.terms.specs.Setting.{is_good, paper_setting};
 
 // k votes in a poll, a yes votes needed, beta1 and beta2, and the edition of the rules.
 #[derive(Drop)]
@@ -56,17 +56,13 @@ impl Setting {
         let beta1 = self.beta1;
         let beta2 = self.beta2;
         let edition = self.edition;
-        votes_good(k, a)
+        (Setting::LEAST_K <= k)
+            & (k <= Setting::MOST_K)
+            & (a <= k)
+            & ((k as u32) < 2 * (a as u32))
             & (Setting::LEAST_BETA <= beta1)
             & (beta1 <= beta2)
             & (beta2 <= Setting::MOST_BETA)
             & (edition <= Setting::LATER_EDITION)
     }
-}
-
-// Whether k votes with a yes votes needed keep the setting's rule: a ledger asks it when it is opened, and a tally at each vote.
-pub fn votes_good(k: u16, a: u16) -> bool
-    ensures { result ≡ votes_good k a }
-{
-    (Setting::LEAST_K <= k) & (k <= Setting::MOST_K) & (a <= k) & ((k as u32) < 2 * (a as u32))
 }

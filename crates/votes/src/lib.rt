@@ -29,7 +29,7 @@ pub fn count_yes(votes: &[u8]) -> usize
     yes
 }
 
-pub fn is_refused(byte: u8) -> bool
+fn is_refused(byte: u8) -> bool
     ensures { result ≡ is_refused (vote_of byte) }
 {
     match vote::read_vote(byte) {

@@ -48,8 +48,8 @@ loop-again c =
     let L = c.before.before.before.before.loop in
     (omega arith, search_miss _ _ _ L.invariant.1 (omega arith) (sym c.before.is-refused.ensures ∙ c.if1.false))
 
-none_refused : tie.Need-returns-2 invariant-loop decreases-loop
-none_refused c =
+none-refused : tie.Need-returns-2 invariant-loop decreases-loop
+none-refused c =
     let votes = c.before.before.before.args.votes.now in
     let e : first (refused_at votes) (length votes) ≡ c.before.loop.j = search_over _ _ _ c.before.loop.invariant.1 (omega arith) in
     sym (le-ltb (first (refused_at votes) (length votes)) (length votes) (omega arith))
@@ -67,4 +67,4 @@ has-refused-spec =
     add-j
     loop-less
     loop-again
-    none_refused)
+    none-refused)

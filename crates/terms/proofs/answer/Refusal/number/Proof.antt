@@ -65,15 +65,6 @@ enum-told-19 c = search rules
 enum-told-20 : tie.Need-enum-told-20
 enum-told-20 c = search rules
 
-enum-told-21 : tie.Need-enum-told-21
-enum-told-21 c = search rules
-
-enum-told-22 : tie.Need-enum-told-22
-enum-told-22 c = search rules
-
-enum-told-23 : tie.Need-enum-told-23
-enum-told-23 c = search rules
-
 returns : tie.Need-returns
 returns c = ap refusal_number (sym c.enum_told.given.1)
 
@@ -134,15 +125,6 @@ returns-19 c = ap refusal_number (sym c.enum-told19.given.1)
 returns-20 : tie.Need-returns-20
 returns-20 c = ap refusal_number (sym c.enum-told20.given.1)
 
-returns-21 : tie.Need-returns-21
-returns-21 c = ap refusal_number (sym c.enum-told21.given.1)
-
-returns-22 : tie.Need-returns-22
-returns-22 c = ap refusal_number (sym c.enum-told22.given.1)
-
-returns-23 : tie.Need-returns-23
-returns-23 c = ap refusal_number (sym c.enum-told23.given.1)
-
 pub number-spec : {M : Type 1} → statement M
 number-spec =
     tie.close
@@ -167,9 +149,6 @@ number-spec =
     enum-told-18
     enum-told-19
     enum-told-20
-    enum-told-21
-    enum-told-22
-    enum-told-23
     returns
     returns-2
     returns-3
@@ -189,7 +168,4 @@ number-spec =
     returns-17
     returns-18
     returns-19
-    returns-20
-    returns-21
-    returns-22
-    returns-23)
+    returns-20)

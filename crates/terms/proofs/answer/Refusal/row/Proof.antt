@@ -65,15 +65,6 @@ enum-told-17 c = search rules
 enum-told-18 : tie.Need-enum-told-18
 enum-told-18 c = search rules
 
-enum-told-19 : tie.Need-enum-told-19
-enum-told-19 c = search rules
-
-enum-told-20 : tie.Need-enum-told-20
-enum-told-20 c = search rules
-
-enum-told-21 : tie.Need-enum-told-21
-enum-told-21 c = search rules
-
 returns : tie.Need-returns
 returns c = ap refusal_row (sym c.enum_told.given.1)
 
@@ -134,15 +125,6 @@ returns-19 c = ap refusal_row (sym c.enum-told17.given.1)
 returns-20 : tie.Need-returns-20
 returns-20 c = ap refusal_row (sym c.enum-told18.given.1)
 
-returns-21 : tie.Need-returns-21
-returns-21 c = ap refusal_row (sym c.enum-told19.given.1)
-
-returns-22 : tie.Need-returns-22
-returns-22 c = ap refusal_row (sym c.enum-told20.given.1)
-
-returns-23 : tie.Need-returns-23
-returns-23 c = ap refusal_row (sym c.enum-told21.given.1)
-
 pub row-spec : {M : Type 1} → statement M
 row-spec =
     tie.close
@@ -167,9 +149,6 @@ row-spec =
     enum-told-16
     enum-told-17
     enum-told-18
-    enum-told-19
-    enum-told-20
-    enum-told-21
     returns
     returns-2
     returns-3
@@ -189,7 +168,4 @@ row-spec =
     returns-17
     returns-18
     returns-19
-    returns-20
-    returns-21
-    returns-22
-    returns-23)
+    returns-20)

@@ -1,12 +1,19 @@
--- Votes and majority are judged by the call, and the other tests each in its turn: the definition itself.
+-- Each test in its turn: the definition itself.
+use borrow.Author.Rules.{rules}
 use Rattle.terms.proofs.setting.Setting.is_good.Statement.{statement}
 use Rattle.terms.proofs.setting.Setting.is_good.Tie as tie
 
-votes-good-requires : tie.Need-votes-good-requires
-votes-good-requires c κs = tt
+cast-result : tie.Need-overflow-cast-result
+cast-result c = search rules
+
+cast-result-2 : tie.Need-overflow-cast-result-2
+cast-result-2 c = search rules
+
+mul-result : tie.Need-overflow-mul-result
+mul-result c = search rules
 
 returns : tie.Need-returns
-returns c = rw c.votes-good.ensures
+returns c = search rules
 
 pub is-good-spec : {M : Type 1} → statement M
-is-good-spec = tie.close (tie.spec votes-good-requires returns)
+is-good-spec = tie.close (tie.spec cast-result cast-result-2 mul-result returns)
