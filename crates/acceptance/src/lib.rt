@@ -1,4 +1,6 @@
 // Who is marked as accepted after a poll. A bit for each slot that has a mark spares looking at the others of the slot.
+#![tactic(auto)]
+
 ghost use Rattle.std.specs.Prelude.{◌≡◌, ◌<◌, ◌≤◌};
 ghost use Rattle.rules.specs.Layout.{bookings};
 ghost use Rattle.rules.specs.Sound.{Ledger};

@@ -1,4 +1,6 @@
 // Whether a booking meets the rule of acceptance, with its parents' acceptance read from their marks.
+#![tactic(auto)]
+
 ghost use Rattle.std.specs.Prelude.{◌≡◌, ◌<◌};
 ghost use Rattle.loops.specs.Search.{first};
 ghost use Rattle.rules.specs.Layout.{most_parents, bookings};

@@ -1,4 +1,6 @@
 // Bits, 64 to a word. In a row of words no bit is set past the end, and setting one there changes nothing.
+#![tactic(auto)]
+
 ghost use Rattle.std.specs.Prelude.{◌≡◌, ◌+◌, ◌*◌, ◌/◌, ◌^◌, ◌<◌, ◌≤◌, min, eqb, length};
 ghost use Rattle.std.specs.Int.Bits.{bit_or};
 ghost use Rattle.loops.specs.Total.{count};

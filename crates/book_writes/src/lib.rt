@@ -1,4 +1,6 @@
 // A taken booking becomes number n, and enters its slot.
+#![tactic(auto)]
+
 ghost use Rattle.std.specs.Prelude.{◌≡◌, ◌<◌, length};
 ghost use Rattle.std.proofs.lemmas.List.Edits.{sets};
 ghost use Rattle.rules.specs.Layout.{size, most_bookings, slots, record_words, none, bookings, record_at, held_in};

@@ -15,6 +15,8 @@
 //
 // Each line is written again. A call's has its outcome after it: whether any word moved, or any cell by a call with an index,
 // the number and the value.
+#![tactic(auto)]
+
 mod call;
 mod cells;
 mod change;

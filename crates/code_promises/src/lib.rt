@@ -1,5 +1,7 @@
 // THE PROMISES OF THE CODE: named statements in specs/, their proofs in proofs/, from the contracts of the public functions alone. No code:
 // the functions are only passed on, so that the proofs name them here, and a function of a weaker contract can be put in the place of one.
+#![tactic(auto)]
+
 pub use index::{build, enter, find};
 pub use ledger::{
     accepted, book, confidence, lead, move_file, open, poll, query, read_file, size, write_file,

@@ -1,5 +1,7 @@
 // The program: reads standard input, serves it piece by piece, and writes each piece. What a piece is, crates/text_program says.
 // A read that fails serves nothing, a write that fails is the last one, and each says so in a line on standard error.
+#![tactic(auto)]
+
 ghost use Rattle.std.specs.Prelude.{◌≡◌, true, ◌≤◌, pos, length};
 ghost use Rattle.text_program.specs.Program.{zeros, lines};
 ghost use Rattle.text_program.specs.Piece.{words_after};

@@ -1,4 +1,6 @@
 // Numbers and names off a file's bytes, high byte first, from an offset on. A byte that was read is below 256, so the file holds the bytes of the number given.
+#![tactic(auto)]
+
 ghost use Rattle.std.specs.Prelude.{◌≡◌, ◌++◌, ◌+◌, ◌*◌, ◌≤◌, length, drop};
 ghost use Rattle.rules.specs.Layout.{most_parents};
 ghost use Rattle.day_file.specs.Bytes.{number_bytes, name_bytes, joined};

@@ -1,5 +1,7 @@
 // Whether a file is good: its bytes are those of the day that they are read as, and each of that day's calls is taken. One pass over the bytes; only where the filter
 // of names can't tell are the names before looked through.
+#![tactic(auto)]
+
 ghost use Rattle.std.specs.Prelude.{◌≡◌, not, ◌+◌, ◌≤◌, ◌<◌, length, drop};
 ghost use Rattle.rules.specs.Layout.{most_bookings};
 ghost use Rattle.bits.specs.Bits.{with_bit};

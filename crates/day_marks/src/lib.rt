@@ -1,5 +1,7 @@
 // The fourth section of a second-form file: where it starts, and whether the file is good. The three before it are judged by `day_judge`, and the marks in one pass
 // over their numbers and one over the bookings.
+#![tactic(auto)]
+
 ghost use Rattle.std.specs.Prelude.{◌≡◌, ◌+◌, ◌*◌, ◌<◌, ◌≤◌, length, get_or, drop};
 ghost use Rattle.day_file.specs.Decode.{read_number, read_many, read_setting, read_booking, decode, behind_day, marks_in};
 ghost use Rattle.day_file.specs.Marks.{slots_differ};

@@ -1,5 +1,7 @@
 // A day file moved to the other form, between two lent buffers. The input is judged before a byte of the output is touched, and read into words of the move's own:
 // what is written is the file of the ledger that it tells of, in the other form.
+#![tactic(auto)]
+
 ghost use Rattle.std.specs.Prelude.{◌≡◌};
 ghost use Rattle.terms.specs.declared.form.Form.TheVariants.{First, Second};
 ghost use Rattle.terms.specs.Answers.{outcome};

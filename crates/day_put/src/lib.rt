@@ -1,4 +1,6 @@
 // Numbers and names into a lent buffer, high byte first: from an offset on, and the offset after them. Every other byte stays.
+#![tactic(auto)]
+
 ghost use Rattle.std.specs.Prelude.{◌+◌, ◌*◌, ◌≤◌, length};
 ghost use Rattle.put.specs.Put.{Put};
 ghost use Rattle.day_file.specs.Bytes.{number_bytes, name_bytes, joined};

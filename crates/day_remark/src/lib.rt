@@ -1,4 +1,6 @@
 // The marks of a second-form file and those of words: put in place of the words' own, and compared with them.
+#![tactic(auto)]
+
 ghost use Rattle.std.specs.Prelude.{◌≡◌, ◌≤◌, length};
 ghost use Rattle.rules.specs.Layout.{size, most_bookings, bookings};
 ghost use Rattle.day_file.specs.Day.{marks_of};

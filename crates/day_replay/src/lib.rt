@@ -1,5 +1,7 @@
 // The words of the day that a good file carries: the opening, then each booking, then each poll, in the file's order. The file is known to be good, so each of
 // its calls is taken, and no refusal is judged again.
+#![tactic(auto)]
+
 ghost use Rattle.std.specs.Prelude.{◌≡◌, true, ◌+◌, ◌*◌, ◌≤◌, length, drop};
 ghost use Rattle.rules.specs.Layout.{size};
 ghost use Rattle.day_file.specs.Bytes.{polls_section};

@@ -1,4 +1,6 @@
 // Rows of the day file: a booking in the second section, a poll in the third. A row is what the record of its booking says.
+#![tactic(auto)]
+
 ghost use Rattle.std.specs.Prelude.{◌≡◌, ◌+◌, ◌*◌, ◌<◌, ◌≤◌, length};
 ghost use Rattle.rules.specs.Layout.{size, most_bookings, ordinal_of};
 ghost use Rattle.put.specs.Put.{Put};

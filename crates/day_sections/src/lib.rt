@@ -1,5 +1,7 @@
 // The sections of the day file, on words that are known to be a ledger: each is written to the front of what it is lent, and every byte past it stays.
 // And how long the first form is.
+#![tactic(auto)]
+
 ghost use Rattle.std.specs.Prelude.{◌≡◌, ◌+◌, ◌*◌, ◌-◌, ◌≤◌, length};
 ghost use Rattle.std.proofs.lemmas.List.Edits.{sets};
 ghost use Rattle.loops.specs.Fill.{from};

@@ -1,5 +1,7 @@
 // THE PUBLIC CALLS ON AN INDEX of names that is lent beside the words. Each takes any lent words, any index and any name, needs no check first, and
 // settles answer and all that it was lent by the law. None changes a word.
+#![tactic(auto)]
+
 ghost use Rattle.std.specs.Prelude.{◌≡◌};
 ghost use Rattle.terms.specs.Answers.{handover};
 ghost use Rattle.rules.specs.Calls.{beside_of};

@@ -1,4 +1,6 @@
 // A booking on words that are known to be a ledger: refusals 1, 2, 14 and 15 are judged above, once; 4, 5 and 6 here, and the parents' in `known_book_parents`.
+#![tactic(auto)]
+
 ghost use Rattle.std.specs.Prelude.{◌≡◌};
 ghost use Rattle.terms.specs.Answers.{outcome};
 ghost use Rattle.rules.specs.Sound.{Ledger};

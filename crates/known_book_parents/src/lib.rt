@@ -1,4 +1,6 @@
 // The parents of a booking: looked up one after another, judged by refusals 7, 8 and 9 in their order, and then written with it.
+#![tactic(auto)]
+
 ghost use Rattle.std.specs.Prelude.{◌≡◌, ◌<◌, ◌≤◌, length, get_or, eqb};
 ghost use Rattle.loops.specs.Search.{any};
 ghost use Rattle.rules.specs.Layout.{slots, most_parents};

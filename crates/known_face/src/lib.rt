@@ -1,5 +1,7 @@
 // Lookups on words that are known to be a ledger, under C names: for the benchmark, which measures what they cost without the test of soundness in front. They
 // ask for a ledger, so they are no calls for hosts, and the static library that hosts link does not have them.
+#![tactic(auto)]
+
 ghost use Rattle.std.specs.Prelude.{◌≡◌, length};
 ghost use Rattle.terms.specs.Answers.{number, value as value_of};
 ghost use Rattle.rules.specs.Calls.{confidence_call};

@@ -1,5 +1,7 @@
 // The calls on an index of the right length, beside words that are known to be a ledger: refusals 1, 18, 2, 14 and 15 are judged above, once.
 // None changes a word.
+#![tactic(auto)]
+
 ghost use Rattle.std.specs.Prelude.{◌≡◌, not, ◌<◌, length};
 ghost use Rattle.terms.specs.Answers.{handover};
 ghost use Rattle.rules.specs.Layout.{size, most_bookings};

@@ -1,4 +1,6 @@
 // A completed poll on words that are known to be a ledger: refusals 1, 2, 14 and 15 are judged above, once, and every other one here, in its order.
+#![tactic(auto)]
+
 ghost use Rattle.std.specs.Prelude.{◌≡◌, ◌<◌, length};
 ghost use Rattle.rules.specs.Layout.{size, most_bookings, bookings, state_of};
 ghost use Rattle.terms.specs.Answers.{outcome};

@@ -1,4 +1,6 @@
 // The readings by name, on a workspace that is known to be a ledger. The public calls test once and come here.
+#![tactic(auto)]
+
 ghost use Rattle.std.specs.Prelude.{◌≡◌, ◌<◌, pos};
 ghost use Rattle.loops.specs.Total.{bit};
 ghost use Rattle.rules.specs.Layout.{bookings, confidence_of};

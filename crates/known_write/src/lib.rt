@@ -1,4 +1,6 @@
 // The day file of words that are known to be a ledger, in either form: refusals 1, 2, 14 and 15 are judged above, once, and 16 here, before a byte is written.
+#![tactic(auto)]
+
 ghost use Rattle.std.specs.Prelude.{◌≡◌, ◌≤◌, length};
 ghost use Rattle.terms.specs.declared.form.Form.TheVariants.{First, Second};
 ghost use Rattle.terms.specs.Answers.{handover};

@@ -1,5 +1,7 @@
 // THE PUBLIC CALLS. Each takes any lent words and any arguments, needs no check first, and settles answer and all that it was lent by the law.
 // The readings stand in `ledger_reads`, the move of a file in `day_move`, and are passed on.
+#![tactic(auto)]
+
 ghost use Rattle.std.specs.Prelude.{◌≡◌, length};
 ghost use Rattle.rules.specs.Layout.{size};
 ghost use Rattle.terms.specs.Answers.{outcome, handover};

@@ -1,4 +1,6 @@
 // THE PUBLIC READINGS. Each takes any lent words and any name, needs no check first, and answers by the law. `ledger` passes them on.
+#![tactic(auto)]
+
 ghost use Rattle.std.specs.Prelude.{◌≡◌};
 ghost use Rattle.rules.specs.Calls.{read_call, query_call, accepted_call, lead_call, confidence_call, size_call};
 

@@ -1,4 +1,6 @@
 // What every public call asks first, once, that makes no new ledger: is the lent memory one.
+#![tactic(auto)]
+
 ghost use Rattle.std.specs.Prelude.{◌≡◌};
 ghost use Rattle.rules.specs.Calls.{test_of, beside_of};
 

@@ -1,4 +1,6 @@
 // The word that begins a line.
+#![tactic(auto)]
+
 ghost use Rattle.std.specs.Prelude.{◌≡◌, cond};
 ghost use Rattle.line_keyword.specs.Keywords.{is_same, keyword_of, reading_word};
 

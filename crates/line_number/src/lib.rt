@@ -1,4 +1,6 @@
 // A word as a number or as a vote.
+#![tactic(auto)]
+
 ghost use Rattle.std.specs.Prelude.{◌≡◌, ◌≤◌};
 ghost use Rattle.line_number.specs.Numbers.{more_of, number_read, vote_read};
 

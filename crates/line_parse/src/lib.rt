@@ -1,4 +1,6 @@
 // A line of the text program is a command. What each line says is in specs/Line.antt.
+#![tactic(auto)]
+
 pub mod command;
 mod line;
 

@@ -1,5 +1,7 @@
 // What one line does to the workspace and prints. The words are all zero until a ledger is opened and a ledger from then on, and which is known at all
 // times: so no line tests them again, and the only damage that is ever told is that of words which were never opened.
+#![tactic(auto)]
+
 ghost use Rattle.std.specs.Prelude.{◌≡◌};
 ghost use Rattle.terms.specs.Answers.{outcome};
 ghost use Rattle.rules.specs.Calls.{open_call, book_call, poll_call, read_call};

@@ -1,4 +1,6 @@
 // The words of a line: where the first of them ends.
+#![tactic(auto)]
+
 ghost use Rattle.std.specs.Prelude.{◌≡◌};
 ghost use Rattle.line_words.specs.Words.{word_end};
 

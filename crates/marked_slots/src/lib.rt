@@ -1,4 +1,6 @@
 // Which slots have a mark, a bit for each: so nobody who judges a mark, or sets one, looks back at the others of its slot.
+#![tactic(auto)]
+
 ghost use Rattle.std.specs.Prelude.{◌≡◌, ◌<◌, ◌≤◌, length};
 ghost use Rattle.bits.specs.Bits.{with_bit};
 ghost use Rattle.bits.specs.Members.{no_bits};

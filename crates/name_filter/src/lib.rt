@@ -1,4 +1,6 @@
 // Names: is one new among those before it. A filter of bits tells most new names at once; only where it can't is a look back needed.
+#![tactic(auto)]
+
 ghost use Rattle.std.specs.Prelude.{◌≡◌, ◌<◌, length};
 ghost use Rattle.rules.specs.Layout.{size, most_bookings, name_of};
 ghost use Rattle.rules.specs.IsSound.{name_new};

@@ -1,4 +1,6 @@
 // The 32-bit FNV-1a hash of a name's eight bytes, highest first, and the cell of an index where probing for the name begins.
+#![tactic(auto)]
+
 ghost use Rattle.std.specs.Prelude.{◌≡◌, ◌<◌};
 ghost use Rattle.name_index.specs.Hash.{hashed, name_width, name_byte, hash_of};
 ghost use Rattle.name_index.specs.Index.{cells, home};

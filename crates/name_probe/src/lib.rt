@@ -1,4 +1,6 @@
 // Probing on 1,024 lent cells: from a name's home up by one and round, for a name or for an empty cell.
+#![tactic(auto)]
+
 ghost use Rattle.std.specs.Prelude.{◌≡◌, ◌<◌, ◌≤◌, length};
 ghost use Rattle.rules.specs.Layout.{size, most_bookings, bookings};
 ghost use Rattle.name_index.specs.Index.{cells, is_empty, probe, look_up_in};

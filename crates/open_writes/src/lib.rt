@@ -1,4 +1,6 @@
 // The words of a newly opened ledger: with the genesis only, in the setting given.
+#![tactic(auto)]
+
 ghost use Rattle.std.specs.Prelude.{◌≡◌, length};
 ghost use Rattle.rules.specs.Layout.{size};
 ghost use Rattle.rules.specs.Open.{opened};

@@ -1,5 +1,7 @@
 // A poll's outcome, written: a success raises and settles the ancestry of its booking, which is gathered first; a failure is noted only, or clears the
 // ancestry's slots too by the edition. Then, whatever the outcome, those who meet the rule of acceptance are marked.
+#![tactic(auto)]
+
 ghost use Rattle.std.specs.Prelude.{◌≡◌, ◌<◌};
 ghost use Rattle.rules.specs.Layout.{bookings, state_of};
 ghost use Rattle.rules.specs.Sound.{Ledger};

@@ -1,4 +1,6 @@
 // How a booking stands in its slot, and whether everything that it rests on is preferred.
+#![tactic(auto)]
+
 ghost use Rattle.std.specs.Prelude.{◌≡◌, ◌<◌, eqb};
 ghost use Rattle.loops.specs.Search.{first};
 ghost use Rattle.rules.specs.Layout.{slot_words, bookings, slot_of, entry};

@@ -1,1 +1,3 @@
 // THE PROMISES: named statements in specs/, their proofs in proofs/. No code.
+
+#![tactic(auto)]

@@ -1,4 +1,6 @@
 // Is a workspace sound, and if not, where: its header, its records, and then a pass over its slot entries.
+#![tactic(auto)]
+
 mod entries;
 mod held;
 

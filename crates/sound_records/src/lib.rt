@@ -1,5 +1,7 @@
 // The pass over the records: each is looked at once, with what the lower ones left in scratch. A name is compared with lower ones only where the filter
 // of names can't tell.
+#![tactic(auto)]
+
 mod ordinals;
 
 ghost use Rattle.std.specs.Prelude.{◌≡◌, not, ◌<◌};

@@ -1,6 +1,8 @@
 // THE C FACE: the calls of the ledger under names that C and Rust link, declared in include/filzhammer.h.
 // Each returns the call's number, writes its value through the last pointer, and leaves the call's words, and the call's bytes or cells in a buffer
 // lent for them.
+#![tactic(auto)]
+
 ghost use Rattle.rules.specs.Calls.{open_call, book_call, poll_call, query_call, accepted_call, lead_call, confidence_call, size_call};
 ghost use Rattle.terms.specs.declared.form.Form.TheVariants.{First, Second};
 ghost use Rattle.day_file.specs.Calls.{write_file_call, read_file_call, move_file_call};

@@ -11,6 +11,7 @@ pub enum Vote {
 }
 
 // A byte is the signed number that the station sent: 255 is -1, a no, and never a large yes.
+#[tactic(auto, unfolding(crate::specs::Votes::vote_of))]
 pub fn read_vote(byte: u8) -> Vote
     ensures { result ≡ vote_of byte }
 {
@@ -30,6 +31,7 @@ pub enum State {
     Unknown,
 }
 
+#[tactic(auto, unfolding(crate::specs::Votes::state_says))]
 pub fn read_state(word: u16) -> State
     ensures { result ≡ state_says word }
 {

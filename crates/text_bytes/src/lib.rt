@@ -1,1 +1,3 @@
 // What reading and printing share: texts as bytes. There is no code here; specs/ has the definitions.
+
+#![tactic(auto)]

@@ -1,5 +1,7 @@
 // What the text program prints, written into a lent buffer from an offset on; the answer is the offset after it.
 // The caller sees to the room: specs/Print.antt has what each prints and how long it can be.
+#![tactic(auto)]
+
 pub mod columns;
 
 ghost use Rattle.std.specs.Prelude.{◌+◌, ◌≤◌, length};

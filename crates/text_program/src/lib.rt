@@ -1,4 +1,6 @@
 // The text program over lent memory, with no system call: is an input too long, and what the lines of a piece of it do and print.
+#![tactic(auto)]
+
 ghost use Rattle.std.specs.Prelude.{◌≡◌, ltb};
 ghost use Rattle.text_program.specs.Program.{input_most};
 ghost use Rattle.text_program.specs.Piece.{line_end, Ready, Serves};

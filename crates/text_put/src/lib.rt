@@ -1,4 +1,6 @@
 // Writers into a lent buffer: bytes from an offset on, and the offset after them. Every other byte stays.
+#![tactic(auto)]
+
 ghost use Rattle.put.specs.Put.{Put, Room};
 ghost use Rattle.text_put.specs.Decimal.{decimal, signed};
 

@@ -1,4 +1,6 @@
 // The votes of a poll: how many say yes, and whether one is refused.
+#![tactic(auto)]
+
 ghost use Rattle.std.specs.Prelude.{◌≡◌};
 ghost use Rattle.loops.specs.Total.{bit};
 ghost use Rattle.terms.specs.Votes.{vote_of, is_yes, is_refused};

@@ -1,4 +1,6 @@
 // Leaf readers and writers of the lent words. All index arithmetic lives here: everything above says header, record or slot entry.
+#![tactic(auto)]
+
 ghost use Rattle.std.specs.Prelude.{◌≡◌, ◌<◌, ◌≤◌, ◌*◌, ◌+◌, length, eqb};
 ghost use Rattle.loops.specs.Fill.{from};
 ghost use Rattle.loops.specs.Total.{bit};
