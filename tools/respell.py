@@ -80,7 +80,7 @@ def main(root, show):
             meets.add(new)
         if len(meets) > 1:
             # The definition, in camel case, has the name; a lemma, with a dash or in snake case already, gives way.
-            lemmas = [m for m in meets if not CAMEL.fullmatch(m) and m in declared and all("/proofs/" in p for p in declared[m])]
+            lemmas = [m for m in meets if not CAMEL.fullmatch(m) and m not in rust and m in declared and all("/proofs/" in p for p in declared[m])]
             keep = [m for m in meets if m not in lemmas]
             if len(keep) <= 1 and lemmas:
                 for m in lemmas if keep else sorted(lemmas)[1:]:

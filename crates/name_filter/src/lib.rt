@@ -14,7 +14,7 @@ const FIRST_PRIME: u64 = 7879;
 
 const SECOND_PRIME: u64 = 7741;
 
-fn first_bit_lem(name: u64) -> usize
+fn first_bit(name: u64) -> usize
     ensures { result ≡ first_bit name }
 {
     (name % FIRST_PRIME) as usize
@@ -30,7 +30,7 @@ fn second_bit(name: u64) -> usize
 pub fn note(filter: &mut [u64], name: u64) -> bool
     ensures { (result ≡ is_noted filter.old name) × (filter.new ≡ with_noted name filter.old) }
 {
-    let a = first_bit_lem(name);
+    let a = first_bit(name);
     let b = second_bit(name);
     let seen = bits::is_set(filter, a) & bits::is_set(filter, b);
     bits::set_bit(filter, a);

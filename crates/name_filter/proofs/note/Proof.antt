@@ -30,7 +30,7 @@ returns c =
     let F = T.before.before.before.before in
     let B = F.before.before in
     let N = B.before.before.before.before in
-    (simp (B.before.before.is_set.ensures, B.is-set2.ensures, N.second-bit.ensures, N.before.first_bit_lem.ensures), simp (T.set-bit2.ensures, F.set-bit.ensures, N.second-bit.ensures, N.before.first_bit_lem.ensures))
+    (simp (B.before.before.is_set.ensures, B.is-set2.ensures, N.second-bit.ensures, N.before.first_bit.ensures), simp (T.set-bit2.ensures, F.set-bit.ensures, N.second-bit.ensures, N.before.first_bit.ensures))
 
 pub note-spec : {M : Type 1} → statement M
 note-spec =
