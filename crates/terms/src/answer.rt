@@ -4,7 +4,7 @@ ghost use Rattle.terms.specs.Answers.{number, refusal_number, refusal_row, value
 
 // Why a call was refused, in the order of their numbers. Damage of a record or a slot is named by the lowest
 // row that breaks a rule.
-#[derive(Drop)]
+#[derive(Clone, Copy, Drop)]
 pub enum Refusal {
     WrongLength,
     DamagedHeader,
@@ -30,7 +30,7 @@ pub enum Refusal {
 
 // Every call answers so. Open, book, poll, reading a file, building an index and entering are taken with value 0, a file is written or moved with its length,
 // and a name is looked up with its booking's number.
-#[derive(Drop)]
+#[derive(Clone, Copy, Drop)]
 pub enum Answer {
     Taken(i64),
     Refused(Refusal),
