@@ -1,5 +1,5 @@
 -- Numbers as decimal digits: no leading zero but for 0 itself, and a minus sign before a number below zero.
-use Rattle.std.specs.Prelude.{ℕ, zero, suc, ◌+◌, ◌/◌, ◌%◌, true, false, List, [], ◌∷◌, ◌++◌, ℤ, pos, negsuc, nat_abs, ltb}
+use Rattle.std.specs.Prelude.{ℕ, zero, suc, ◌/◌, ◌%◌, true, false, List, [], ◌∷◌, ◌++◌, ℤ, pos, negsuc, nat_abs, ltb}
 use Rattle.text_bytes.specs.Bytes.{minus, digit}
 
 -- a digit alone below ten, else the digits of the tenth and then the last; f bounds how often a tenth is taken
