@@ -1,0 +1,14 @@
+use mathlib.Core.Path.{◌≡◌}
+use Prim.Native.Nat.{◌-◌, ◌≤◌}
+use lib.ListN.{length}
+use Rattle.line_words.specs.Words.{words_after}
+use Rattle.line_number.specs.Numbers.{number_read}
+use Rattle.line_scan.proofs.Leading.{Left}
+use Rattle.line_scan.proofs.many.read_numbers.Given as goal
+
+abbrev pub invariant-loop-at : goal.invariant-loop-at
+invariant-loop-at l =
+    (l.at ≤ length l.line) × (length l.numbers ≡ length l.initial.numbers) × Left (number_read l.most) (length l.initial.numbers) (words_after l.line l.start) l.initial.numbers l.count (words_after l.line l.at) l.numbers
+
+abbrev pub decreases-loop-at : goal.decreases-loop-at
+decreases-loop-at l = length l.line - l.at
