@@ -4,7 +4,7 @@ ghost use Rattle.terms.specs.Answers.{number, refusal_number, refusal_row, value
 
 // Why a call was refused, in the order of their numbers. Damage of a record or a slot is named by the lowest
 // row that breaks a rule.
-#[derive(Clone, Copy, Drop)]
+#[derive(Clone, Copy)]
 pub enum Refusal {
     WrongLength,
     DamagedHeader,
@@ -30,14 +30,14 @@ pub enum Refusal {
 
 // Every call answers so. Open, book, poll, reading a file, building an index and entering are taken with value 0, a file is written or moved with its length,
 // and a name is looked up with its booking's number.
-#[derive(Clone, Copy, Drop)]
+#[derive(Clone, Copy)]
 pub enum Answer {
     Taken(i64),
     Refused(Refusal),
 }
 
 // Which of the five readings is asked for.
-#[derive(Drop)]
+#[derive(Clone, Copy)]
 pub enum Reading {
     Query,
     Accepted,
@@ -47,14 +47,14 @@ pub enum Reading {
 }
 
 // Whether lent words are a ledger, or what stops a call on them.
-#[derive(Drop)]
+#[derive(Clone, Copy)]
 pub enum Tested {
     Fine,
     Stop(Refusal),
 }
 
 // The number of a booking, or that there is none.
-#[derive(Drop)]
+#[derive(Clone, Copy)]
 pub enum Found {
     At(usize),
     Absent,

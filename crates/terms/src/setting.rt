@@ -3,7 +3,7 @@ ghost use Rattle.std.specs.Prelude.{◌≡◌};
 ghost use Rattle.terms.specs.Setting.{is_good, paper_setting};
 
 // k votes in a poll, a yes votes needed, beta1 and beta2, and the edition of the rules.
-#[derive(Drop)]
+#[derive(Clone, Copy)]
 pub struct Setting {
     pub k: u16,
     pub a: u16,

@@ -2,7 +2,7 @@
 ghost use Rattle.std.specs.Prelude.{◌≡◌};
 ghost use Rattle.terms.specs.Votes.{vote_of, state_says};
 
-#[derive(Drop)]
+#[derive(Clone, Copy)]
 pub enum Vote {
     Yes,
     No,
@@ -23,7 +23,7 @@ pub fn read_vote(byte: u8) -> Vote
     }
 }
 
-#[derive(Drop)]
+#[derive(Clone, Copy)]
 pub enum State {
     Waiting,
     NoChit,
