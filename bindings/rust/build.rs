@@ -4,7 +4,7 @@ use std::{env, fs, process};
 
 fn stop(reason: &str) -> ! {
     eprintln!("filzhammer: {reason}");
-    eprintln!("filzhammer: `rt staticlib station` writes target/staticlib/libstation.a; set STATION_LIB_DIR to that folder's absolute path");
+    eprintln!("filzhammer: `bin/staticlib` writes target/staticlib/libstation.a; set STATION_LIB_DIR to that folder's absolute path");
     process::exit(1)
 }
 
