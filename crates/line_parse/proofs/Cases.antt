@@ -1,6 +1,6 @@
 -- Lines with what they say, computed from the definitions: what each rule of the syntax takes and what it leaves out.
 use mathlib.Core.Path.{◌≡◌, refl}
-use mathlib.Core.List.{List, [], ◌∷◌}
+use mathlib.Core.List.{[], ◌∷◌}
 use Prim.Native.String.{String}
 use Rattle.loops.specs.Search.{first_from}
 use Rattle.loops.specs.Turns.{up_to}
