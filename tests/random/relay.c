@@ -1,6 +1,5 @@
 /*
- * Makes calls of the C face for whoever asks through a pipe: for a caller that cannot link the library, because it is
- * compiled for another machine than x86-64.
+ * Makes calls of the C face for whoever asks through a pipe: for a caller that cannot link the library.
  *
  * A request is a struct asked, the words, the parents or the votes, the bytes of a file, those of a buffer for one, and the
  * cells of an index; the answer is a struct told, and the words, those bytes and those cells as the call left them. Both

@@ -1,5 +1,5 @@
 //! The product's C face, called by a program beside this one: for a machine
-//! that cannot link the library, which is compiled for x86-64.
+//! that cannot link the library.
 
 use crate::call::{Beside, Call, Face, Indexing};
 use second::words::Answer;
