@@ -1,7 +1,7 @@
 -- The bookings one after the other: how the rules of the next are asked, and one more that was walked.
 -- Rests on specs/Judged.antt. Assumes nothing.
 use mathlib.Core.Path.{◌≡◌, refl, sym, ap, ap₂, ◌∙◌}
-use mathlib.Core.Bool.{Bool, true, false, not, ◌&&◌, true≢false}
+use mathlib.Core.Bool.{Bool, true, not, ◌&&◌, true≢false}
 use mathlib.Core.List.{List, [], ◌++◌, append_assoc}
 use Prim.Native.Nat.{ℕ, zero, suc, ◌+◌, ◌^◌, ◌<◌, ◌≤◌}
 use native.Mathlib.Numerals.{add-one}
@@ -15,7 +15,7 @@ use Rattle.day_file.specs.Bytes.{number_bytes, name_bytes, counted, booking_byte
 use Rattle.day_file.specs.Decode.{Read, read_many, read_booking}
 use Rattle.day_file.specs.DayRules.{booking_passes}
 use Rattle.day_file.proofs.ReadMany.{read_many_at, read_many_more}
-use Rattle.day_judge.specs.Parts.{Holds, behind, row_at, name_read, is_named, row_good, BookingsGood}
+use Rattle.day_judge.specs.Parts.{Holds, row_at, name_read, is_named, row_good, BookingsGood}
 use Rattle.day_judge.specs.Judged.{Walked, booking_from, RowEnds, RowJudged}
 use Rattle.day_judge.proofs.Walk.{left_is, holds_more, holds_none}
 use Rattle.day_judge.proofs.Rules.{booking_rules}
