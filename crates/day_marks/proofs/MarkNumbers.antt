@@ -16,7 +16,6 @@ use Rattle.day_file.specs.Bytes.{number_bytes, joined, marks_section}
 use Rattle.day_file.specs.Decode.{value_of, read_number, read_many, marks_in}
 use Rattle.day_file.specs.Marks.{is_rising, starts_with_genesis, are_below}
 use Rattle.day_file.proofs.Joined.{length_high_first, length_counted, length_joined_even}
-use Rattle.day_file.proofs.ReadMany.{length_read_many, read_many_at}
 use Rattle.day_file.proofs.FileBytes.{AreBytes}
 use Rattle.day_file.proofs.SecondFile.{marks_many}
 use Rattle.day_get.proofs.Got.{number_got}
