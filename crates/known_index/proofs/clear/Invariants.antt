@@ -1,4 +1,4 @@
-use Prim.Native.Nat.{◌≤◌, ◌-◌}
+use Prim.Native.Nat.{◌≤◌}
 use mathlib.Core.Path.{◌≡◌}
 use lib.ListN.{length}
 use Rattle.name_index.specs.Index.{cells}
@@ -7,6 +7,3 @@ use Rattle.known_index.proofs.clear.Given as goal
 
 abbrev pub invariant-loop-c : goal.invariant-loop-c
 invariant-loop-c l = (l.c ≤ cells) × (length l.index ≡ cells) × Cleared l.c l.index
-
-abbrev pub decreases-loop-c : goal.decreases-loop-c
-decreases-loop-c l = cells - l.c

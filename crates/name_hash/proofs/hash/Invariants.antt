@@ -1,4 +1,4 @@
-use Prim.Native.Nat.{ℕ, ◌≤◌, ◌-◌}
+use Prim.Native.Nat.{ℕ, ◌≤◌}
 use mathlib.Core.Path.{◌≡◌}
 use Rattle.loops.specs.Turns.{up_to}
 use Rattle.name_index.specs.Hash.{hash_start, hashed, name_width, name_byte}
@@ -9,6 +9,3 @@ step name j hash = hashed hash (name_byte name j)
 
 abbrev pub invariant-loop-j : goal.invariant-loop-j
 invariant-loop-j l = (l.j ≤ name_width) × (l.hash ≡ up_to (step l.name) l.j hash_start)
-
-abbrev pub decreases-loop-j : goal.decreases-loop-j
-decreases-loop-j l = name_width - l.j
