@@ -1,9 +1,9 @@
 -- A move judged and written as the law says: what a good second-form file has behind its offset, and that writing the words which the input gives, in the other form, is
 -- the move. Assumes nothing.
-use mathlib.Core.Path.{◌≡◌, refl, sym, ap, ap₂, subst, ◌∙◌}
-use mathlib.Core.Bool.{true, false, not}
+use mathlib.Core.Path.{◌≡◌, refl, sym, ap, subst, ◌∙◌}
+use mathlib.Core.Bool.{true, false}
 use mathlib.Core.List.{List}
-use Prim.Native.Nat.{ℕ, ◌-◌, ◌<◌, ◌≤◌}
+use Prim.Native.Nat.{ℕ, ◌-◌, ◌<◌}
 use native.Mathlib.Omega.{arith}
 use lib.ListN.{length, get_or, take, drop, length-drop}
 use lib.Seq.{take_all}
@@ -13,7 +13,6 @@ use Rattle.terms.specs.declared.answer.Answer.{Answer}
 use Rattle.terms.specs.declared.answer.Answer.TheVariants.{Taken, Refused}
 use Rattle.terms.specs.declared.answer.Refusal.TheVariants.{BadFile, OtherMarks}
 use Rattle.terms.specs.Answers.{outcome, leaves, handover, hands_over}
-use Rattle.rules.specs.Layout.{most_bookings, bookings}
 use Rattle.rules.specs.Sound.{Ledger}
 use Rattle.rule_laws.proofs.Tested.{tested_known}
 use Rattle.day_file.specs.Day.{marks_of}
