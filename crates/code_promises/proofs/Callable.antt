@@ -4,6 +4,7 @@ use mathlib.Core.List.{List, []}
 use Prim.Native.Nat.{ℕ}
 use lib.IntN.{pos}
 use denote.Ref.{Bor}
+use denote.MutBor.{MutBor}
 use denote.Triple.Clauses.{at_exit}
 use borrow.Fn.Kinds.{In, Out}
 use Rattle.terms.specs.declared.setting.Setting.{Setting}
@@ -41,6 +42,10 @@ use Rattle.code_promises.proofs as code
 abbrev pub lent : {X : Type 0} → X → Bor X
 lent x = record { ref_ptr = (0, 0); now = x }
 
+-- and one to what is lent for writing
+abbrev pub held : {X : Type 0} → X → MutBor X
+held x = record { ref_ptr = (0, 0); ghost_name = 0; now = x }
+
 -- the number and the value of an answer are its own
 own : (a : Answer) → Returned a (number a) (value a)
 own a = record { numbered = refl; valued = refl }
@@ -62,7 +67,7 @@ open_callable : (s : Setting) (w : List ℕ) → Makes function by_open (Open s)
 open_callable s w =
     let o = open_call w s in
     record {
-      allowed = record { at = ([], tt); given = (lent w, (s, tt)); returned = o.answer; last = (o.words, (tt, tt)); learnt = refl };
+      allowed = record { at = ([], tt); given = (held w, (s, tt)); returned = o.answer; last = (o.words, (tt, tt)); learnt = refl };
       asks = refl;
       words = refl;
     }
@@ -73,7 +78,7 @@ book_callable name slot parents w =
     record {
       allowed = record {
         at = ([], ([], tt));
-        given = (lent w, (name, (slot, (lent parents, tt))));
+        given = (held w, (name, (slot, (lent parents, tt))));
         returned = o.answer;
         last = (o.words, (tt, (tt, (tt, tt))));
         learnt = refl;
@@ -88,7 +93,7 @@ poll_callable name votes w =
     record {
       allowed = record {
         at = ([], ([], tt));
-        given = (lent w, (name, (lent votes, tt)));
+        given = (held w, (name, (lent votes, tt)));
         returned = o.answer;
         last = (o.words, (tt, (tt, tt)));
         learnt = refl;
@@ -104,7 +109,7 @@ write_file_callable form buffer w =
     record {
       allowed = record {
         at = ([], ([], tt));
-        given = (lent w, (form, (lent buffer, tt)));
+        given = (lent w, (form, (held buffer, tt)));
         returned = o.answer;
         last = (tt, (tt, (o.lent, tt)));
         learnt = left_words o (write_words form w buffer);
@@ -119,7 +124,7 @@ read_file_callable form file w =
     record {
       allowed = record {
         at = ([], ([], tt));
-        given = (lent w, (form, (lent file, tt)));
+        given = (held w, (form, (lent file, tt)));
         returned = o.answer;
         last = (o.words, (tt, (tt, tt)));
         learnt = refl;
@@ -132,10 +137,10 @@ read_file_callable form file w =
 abbrev index : {Asked : In 2 code.build.Kinds.ps} {Learnt : Out 2 code.build.Kinds.ps code.build.Kinds.r} →
     let f = contract_of 2 code.build.Kinds.ps code.build.Kinds.r Asked Learnt in
     (cells w : List ℕ) (o : Handover) →
-    Learnt ([], ([], tt)) (lent w, (lent cells, tt)) o.answer (at_exit (ended_by f) ([], ([], tt)) (lent w, (lent cells, tt)) (tt, (o.lent, tt))) →
+    Learnt ([], ([], tt)) (lent w, (held cells, tt)) o.answer (at_exit (ended_by f) ([], ([], tt)) (lent w, (held cells, tt)) (tt, (o.lent, tt))) →
     Allowed f
 index cells w o learnt =
-    record { at = ([], ([], tt)); given = (lent w, (lent cells, tt)); returned = o.answer; last = (tt, (o.lent, tt)); learnt = learnt }
+    record { at = ([], ([], tt)); given = (lent w, (held cells, tt)); returned = o.answer; last = (tt, (o.lent, tt)); learnt = learnt }
 
 find_callable : (cells : List ℕ) (name : ℕ) (w : List ℕ) → Makes function by_find (IndexFind cells name) w
 find_callable cells name w =
@@ -186,7 +191,7 @@ filz_open_callable s w =
     record {
       allowed = record {
         at = ([], ([], tt));
-        given = (lent w, (s.k, (s.a, (s.beta1, (s.beta2, (s.edition, (lent (pos 0), tt)))))));
+        given = (held w, (s.k, (s.a, (s.beta1, (s.beta2, (s.edition, (held (pos 0), tt)))))));
         returned = number o.answer;
         last = (o.words, (tt, (tt, (tt, (tt, (tt, (value o.answer, tt)))))));
         learnt = handed o;
@@ -201,7 +206,7 @@ filz_book_callable name slot parents w =
     record {
       allowed = record {
         at = ([], ([], ([], tt)));
-        given = (lent w, (name, (slot, (lent parents, (lent (pos 0), tt)))));
+        given = (held w, (name, (slot, (lent parents, (held (pos 0), tt)))));
         returned = number o.answer;
         last = (o.words, (tt, (tt, (tt, (value o.answer, tt)))));
         learnt = handed o;
@@ -216,7 +221,7 @@ filz_poll_callable name votes w =
     record {
       allowed = record {
         at = ([], ([], ([], tt)));
-        given = (lent w, (name, (lent votes, (lent (pos 0), tt))));
+        given = (held w, (name, (lent votes, (held (pos 0), tt))));
         returned = number o.answer;
         last = (o.words, (tt, (tt, (value o.answer, tt))));
         learnt = handed o;
@@ -229,13 +234,13 @@ filz_poll_callable name votes w =
 abbrev filz_write : {Asked : In 3 code.filz_write_first.Kinds.ps} {Learnt : Out 3 code.filz_write_first.Kinds.ps code.filz_write_first.Kinds.r} →
     let f = contract_of 3 code.filz_write_first.Kinds.ps code.filz_write_first.Kinds.r Asked Learnt in
     (buffer w : List ℕ) (o : Handover) →
-    Learnt ([], ([], ([], tt))) (lent w, (lent buffer, (lent (pos 0), tt))) (number o.answer)
-    (at_exit (ended_by f) ([], ([], ([], tt))) (lent w, (lent buffer, (lent (pos 0), tt))) (tt, (o.lent, (value o.answer, tt)))) →
+    Learnt ([], ([], ([], tt))) (lent w, (held buffer, (held (pos 0), tt))) (number o.answer)
+    (at_exit (ended_by f) ([], ([], ([], tt))) (lent w, (held buffer, (held (pos 0), tt))) (tt, (o.lent, (value o.answer, tt)))) →
     Allowed f
 filz_write buffer w o learnt =
     record {
       at = ([], ([], ([], tt)));
-      given = (lent w, (lent buffer, (lent (pos 0), tt)));
+      given = (lent w, (held buffer, (held (pos 0), tt)));
       returned = number o.answer;
       last = (tt, (o.lent, (value o.answer, tt)));
       learnt = learnt;
@@ -244,13 +249,13 @@ filz_write buffer w o learnt =
 abbrev filz_take : {Asked : In 3 code.filz_read_first.Kinds.ps} {Learnt : Out 3 code.filz_read_first.Kinds.ps code.filz_read_first.Kinds.r} →
     let f = contract_of 3 code.filz_read_first.Kinds.ps code.filz_read_first.Kinds.r Asked Learnt in
     (file w : List ℕ) (o : Outcome) →
-    Learnt ([], ([], ([], tt))) (lent w, (lent file, (lent (pos 0), tt))) (number o.answer)
-    (at_exit (ended_by f) ([], ([], ([], tt))) (lent w, (lent file, (lent (pos 0), tt))) (o.words, (tt, (value o.answer, tt)))) →
+    Learnt ([], ([], ([], tt))) (held w, (lent file, (held (pos 0), tt))) (number o.answer)
+    (at_exit (ended_by f) ([], ([], ([], tt))) (held w, (lent file, (held (pos 0), tt))) (o.words, (tt, (value o.answer, tt)))) →
     Allowed f
 filz_take file w o learnt =
     record {
       at = ([], ([], ([], tt)));
-      given = (lent w, (lent file, (lent (pos 0), tt)));
+      given = (held w, (lent file, (held (pos 0), tt)));
       returned = number o.answer;
       last = (o.words, (tt, (value o.answer, tt)));
       learnt = learnt;
@@ -259,13 +264,13 @@ filz_take file w o learnt =
 abbrev filz_index : {Asked : In 3 code.filz_index_build.Kinds.ps} {Learnt : Out 3 code.filz_index_build.Kinds.ps code.filz_index_build.Kinds.r} →
     let f = contract_of 3 code.filz_index_build.Kinds.ps code.filz_index_build.Kinds.r Asked Learnt in
     (cells w : List ℕ) (o : Handover) →
-    Learnt ([], ([], ([], tt))) (lent w, (lent cells, (lent (pos 0), tt))) (number o.answer)
-    (at_exit (ended_by f) ([], ([], ([], tt))) (lent w, (lent cells, (lent (pos 0), tt))) (tt, (o.lent, (value o.answer, tt)))) →
+    Learnt ([], ([], ([], tt))) (lent w, (held cells, (held (pos 0), tt))) (number o.answer)
+    (at_exit (ended_by f) ([], ([], ([], tt))) (lent w, (held cells, (held (pos 0), tt))) (tt, (o.lent, (value o.answer, tt)))) →
     Allowed f
 filz_index cells w o learnt =
     record {
       at = ([], ([], ([], tt)));
-      given = (lent w, (lent cells, (lent (pos 0), tt)));
+      given = (lent w, (held cells, (held (pos 0), tt)));
       returned = number o.answer;
       last = (tt, (o.lent, (value o.answer, tt)));
       learnt = learnt;
@@ -277,7 +282,7 @@ filz_find_callable cells name w =
     record {
       allowed = record {
         at = ([], ([], ([], tt)));
-        given = (lent w, (lent cells, (name, (lent (pos 0), tt))));
+        given = (lent w, (lent cells, (name, (held (pos 0), tt))));
         returned = number r;
         last = (tt, (tt, (tt, (value r, tt))));
         learnt = own r;
@@ -289,11 +294,11 @@ filz_find_callable cells name w =
 abbrev filz_read : {Asked : In 2 code.filz_query.Kinds.ps} {Learnt : Out 2 code.filz_query.Kinds.ps code.filz_query.Kinds.r} →
     let f = contract_of 2 code.filz_query.Kinds.ps code.filz_query.Kinds.r Asked Learnt in
     (name : ℕ) (w : List ℕ) (r : Answer) →
-    Learnt ([], ([], tt)) (lent w, (name, (lent (pos 0), tt))) (number r)
-    (at_exit (ended_by f) ([], ([], tt)) (lent w, (name, (lent (pos 0), tt))) (tt, (tt, (value r, tt)))) →
+    Learnt ([], ([], tt)) (lent w, (name, (held (pos 0), tt))) (number r)
+    (at_exit (ended_by f) ([], ([], tt)) (lent w, (name, (held (pos 0), tt))) (tt, (tt, (value r, tt)))) →
     Allowed f
 filz_read name w r learnt =
-    record { at = ([], ([], tt)); given = (lent w, (name, (lent (pos 0), tt))); returned = number r; last = (tt, (tt, (value r, tt))); learnt = learnt }
+    record { at = ([], ([], tt)); given = (lent w, (name, (held (pos 0), tt))); returned = number r; last = (tt, (tt, (value r, tt))); learnt = learnt }
 
 pub station_callable : CodeCallable function of_station
 unfolding CodeCallable

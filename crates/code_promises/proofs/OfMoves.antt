@@ -35,7 +35,7 @@ use Rattle.code_promises.specs.OfMoves.{
   MoveComesBack,
 }
 use Rattle.code_promises.proofs.Functions.{function, MoverName, by_move_file, by_filz_move_first, by_filz_move_second, mover, moves_of_ledger, moves_of_station}
-use Rattle.code_promises.proofs.Callable.{lent, handed}
+use Rattle.code_promises.proofs.Callable.{lent, held, handed}
 use Rattle.code_promises.proofs.OfCode.{gave, due_is}
 use Rattle.code_promises.proofs as code
 
@@ -48,7 +48,7 @@ ledger_moves form file out =
     record {
       allowed = record {
         at = ([], ([], tt));
-        given = (form, (lent file, (lent out, tt)));
+        given = (form, (lent file, (held out, tt)));
         returned = o.answer;
         last = (tt, (tt, (o.words, tt)));
         learnt = refl;
@@ -61,13 +61,13 @@ ledger_moves form file out =
 abbrev filz_move : {Asked : In 3 code.filz_move_first.Kinds.ps} {Learnt : Out 3 code.filz_move_first.Kinds.ps code.filz_move_first.Kinds.r} →
     let f = contract_of 3 code.filz_move_first.Kinds.ps code.filz_move_first.Kinds.r Asked Learnt in
     (file out : List ℕ) (o : Outcome) →
-    Learnt ([], ([], ([], tt))) (lent file, (lent out, (lent (pos 0), tt))) (number o.answer)
-    (at_exit (ended_by f) ([], ([], ([], tt))) (lent file, (lent out, (lent (pos 0), tt))) (tt, (o.words, (value o.answer, tt)))) →
+    Learnt ([], ([], ([], tt))) (lent file, (held out, (held (pos 0), tt))) (number o.answer)
+    (at_exit (ended_by f) ([], ([], ([], tt))) (lent file, (held out, (held (pos 0), tt))) (tt, (o.words, (value o.answer, tt)))) →
     Allowed f
 filz_move file out o learnt =
     record {
       at = ([], ([], ([], tt)));
-      given = (lent file, (lent out, (lent (pos 0), tt)));
+      given = (lent file, (held out, (held (pos 0), tt)));
       returned = number o.answer;
       last = (tt, (o.words, (value o.answer, tt)));
       learnt = learnt;
