@@ -1,5 +1,5 @@
 -- What the system told, and what the whole input leaves. No contract can say which bytes a call of the system reads or writes.
-use Rattle.std.specs.Prelude.{ℕ, zero, suc, ◌≤◌, min, ◌≡◌, cond, List, ℤ, pos, negsuc, length, ltb}
+use Rattle.std.specs.Prelude.{ℕ, zero, suc, ◌≤◌, min, ◌≡◌, cond, List, length, Result, Ok, Err, ltb}
 use Rattle.text_program.specs.Program.{input_most, zeros, lines}
 use Rattle.text_program.specs.Piece.{words_after}
 use Rattle.console.specs.declared.Got.{Got}
@@ -9,11 +9,11 @@ use Rattle.console.specs.declared.Input.TheVariants.{Whole, Broken}
 
 -- ---- reading
 
--- a number below zero is a fault and no end of the input; never more bytes than there was room for
-abbrev pub got_of : ℤ → ℕ → Got
-got_of (pos zero) room = Ended
-got_of (pos (suc n)) room = More (min (suc n) room)
-got_of (negsuc n) room = Failed
+-- an error is a fault and no end of the input; never more bytes than there was room for
+abbrev pub got_of : {E : Type 0} → Result ℕ E → ℕ → Got
+got_of (Ok zero) room = Ended
+got_of (Ok (suc n)) room = More (min (suc n) room)
+got_of (Err e) room = Failed
 
 -- some bytes, and no more than there was room for
 abbrev pub Fits : Got → ℕ → Type 0

@@ -2,12 +2,14 @@
 // A read that fails serves nothing, a write that fails is the last one, and each says so in a line on standard error.
 #![tactic(auto)]
 
-ghost use Rattle.std.specs.Prelude.{◌≡◌, true, ◌≤◌, pos, length};
+ghost use Rattle.std.specs.Prelude.{◌≡◌, true, ◌≤◌, length};
 ghost use Rattle.text_program.specs.Program.{zeros, lines};
 ghost use Rattle.text_program.specs.Piece.{words_after};
 ghost use Rattle.console.specs.Console.{got_of, Fits, Within, Begun, words_left};
 
 use rules::layout;
+use std::io;
+use std::io::{Print, Read, Stdin, Stdout};
 use text_program::INPUT_MOST;
 
 // How many bytes are gathered at most before they are written.
@@ -29,34 +31,32 @@ enum Input {
 }
 
 // What `read` answered, for a buffer it was given.
-fn told(answer: isize, space: &[u8]) -> Got
+fn told(answer: io::Result<usize>, space: &[u8]) -> Got
     ensures { result ≡ got_of answer (length space.now) }
 {
-    if answer > 0 {
-        Got::More(io::count(answer, space))
-    } else if answer < 0 {
-        Got::Failed
-    } else {
-        Got::Ended
+    match answer {
+        Ok(0) => Got::Ended,
+        Ok(more) => Got::More(more.min(space.len())),
+        Err(_) => Got::Failed,
     }
 }
 
 // One read into the room that is left.
-fn read_more(space: &mut [u8]) -> Got
+fn read_more(mut from: Stdin, space: &mut [u8]) -> Got
     requires { 1 ≤ length space.old }
     ensures { Fits result (length space.old) }
 {
-    let answer = libc::read(libc::STDIN_FILENO, space);
+    let answer = from.read(space);
     told(answer, space)
 }
 
 // Reads until the input ends or the buffer is full.
-fn read_input(input: &mut [u8]) -> Input
+fn read_input(from: Stdin, input: &mut [u8]) -> Input
     ensures { Within result (length input.old) }
 {
     let mut count = 0;
     while count < input.len() {
-        let got = read_more(&mut input[count..]);
+        let got = read_more(from, &mut input[count..]);
         match got {
             Got::More(more) => count += more,
             Got::Ended => return Input::Whole(count),
@@ -66,15 +66,22 @@ fn read_input(input: &mut [u8]) -> Input
     Input::Whole(count)
 }
 
-// Writes all that was put into a buffer, or tells that it failed. It is handed standard output and nothing else.
-fn write_out(to: i32, bytes: &[u8]) -> bool
-    requires { to ≡ pos 1 }
-{
-    io::write_all(to, bytes)
+// Writes all that was put into a buffer, or tells that it failed. It is handed standard output and nothing else, as its type says.
+// std's own `write_all` would write again after a write that a signal stopped; here any write that fails is the last.
+fn write_out(to: Stdout, bytes: &[u8]) -> bool {
+    let mut done = 0;
+    while done < bytes.len() {
+        match to.write_some(&bytes[done..]) {
+            Ok(0) => return false,
+            Ok(count) => done += count,
+            Err(_) => return false,
+        }
+    }
+    true
 }
 
 // Serves the lines piece by piece and writes each piece, whole, before the next is served. False as soon as a write fails.
-fn serve_lines(w: &mut [u16], input: &[u8], out: &mut [u8]) -> bool
+fn serve_lines(to: Stdout, w: &mut [u16], input: &[u8], out: &mut [u8]) -> bool
     requires { Begun w.old out.old }
     ensures { result ≡ true → w.new ≡ words_after zeros (lines input.now) }
 {
@@ -83,7 +90,7 @@ fn serve_lines(w: &mut [u16], input: &[u8], out: &mut [u8]) -> bool
     while start < input.len() {
         let piece = text_program::serve_piece(w, known, input, start, out);
         let count = piece.count;
-        if !write_out(libc::STDOUT_FILENO, &out[..count]) {
+        if !write_out(to, &out[..count]) {
             return false;
         }
         known = piece.known;
@@ -93,33 +100,27 @@ fn serve_lines(w: &mut [u16], input: &[u8], out: &mut [u8]) -> bool
 }
 
 // An input that is too long is told so, and none of its lines is served.
-fn serve_input(w: &mut [u16], input: &[u8], out: &mut [u8]) -> bool
+fn serve_input(to: Stdout, w: &mut [u16], input: &[u8], out: &mut [u8]) -> bool
     requires { Begun w.old out.old }
     ensures { result ≡ true → w.new ≡ words_left input.now }
 {
     if text_program::is_too_long(input.len()) {
         let count = text_print::put_too_long(out, 0);
-        return write_out(libc::STDOUT_FILENO, &out[..count]);
+        return write_out(to, &out[..count]);
     }
-    serve_lines(w, input, out)
+    serve_lines(to, w, input, out)
 }
 
 // One byte more than the longest input is asked for, so that a longer one is seen. The workspace starts all zero.
-fn main() {
+fn main(rt: HostRuntime) {
     let mut input = [0u8; INPUT_MOST + 1];
-    let Input::Whole(count) = read_input(&mut input) else {
-        io::write_all(
-            libc::STDERR_FILENO,
-            b"console: standard input could not be read\n",
-        );
+    let Input::Whole(count) = read_input(rt.stdin(), &mut input) else {
+        let _ = eprintln!(rt; "console: standard input could not be read");
         return;
     };
     let mut w = [0u16; layout::SIZE];
     let mut out = [0u8; GATHERED];
-    if !serve_input(&mut w, &input[..count], &mut out) {
-        io::write_all(
-            libc::STDERR_FILENO,
-            b"console: standard output could not be written\n",
-        );
+    if !serve_input(rt.stdout(), &mut w, &input[..count], &mut out) {
+        let _ = eprintln!(rt; "console: standard output could not be written");
     }
 }
