@@ -49,13 +49,13 @@ number_at-count-requires c =
 pub overflow_add-at-in-loop-i : goal.overflow_add-at-in-loop-i
 overflow_add-at-in-loop-i c =
     let fits : c.loop-i.at + 12 + 2 * length (booking_from c.args.sections.now c.loop-i.at).parents ≤ length c.args.sections.now = omega (arith, row_fits c.args.sections.now c.loop-i.at c.loop-i.i c.loop-i.invariant.1 c.args.j (omega arith) c.requires.0, length_booking_bytes (booking_from c.args.sections.now c.loop-i.at)) in
-    let end : c.loop-i.at + 12 + 2 * c.number_at-count.result ≤ length (c.args.sections.now) = omega (arith, fits, length_booking_bytes (booking_from c.args.sections.now c.loop-i.at), booking_end c.args.sections.now c.loop-i.at c.number_at-count.result (search rules) c.number_at-count.ensures) in
+    let end : c.loop-i.at + 12 + 2 * c.number_at-count.result ≤ length c.args.sections.now = omega (arith, fits, length_booking_bytes (booking_from c.args.sections.now c.loop-i.at), booking_end c.args.sections.now c.loop-i.at c.number_at-count.result (search rules) c.number_at-count.ensures) in
     omega (arith, end)
 
 pub overflow_add-at-in-loop-i-2 : goal.overflow_add-at-in-loop-i-2
 overflow_add-at-in-loop-i-2 c =
     let fits : c.loop-i.at + 12 + 2 * length (booking_from c.args.sections.now c.loop-i.at).parents ≤ length c.args.sections.now = omega (arith, row_fits c.args.sections.now c.loop-i.at c.loop-i.i c.loop-i.invariant.1 c.args.j (omega arith) c.requires.0, length_booking_bytes (booking_from c.args.sections.now c.loop-i.at)) in
-    let end : c.loop-i.at + 12 + 2 * c.number_at-count.result ≤ length (c.args.sections.now) = omega (arith, fits, length_booking_bytes (booking_from c.args.sections.now c.loop-i.at), booking_end c.args.sections.now c.loop-i.at c.number_at-count.result (search rules) c.number_at-count.ensures) in
+    let end : c.loop-i.at + 12 + 2 * c.number_at-count.result ≤ length c.args.sections.now = omega (arith, fits, length_booking_bytes (booking_from c.args.sections.now c.loop-i.at), booking_end c.args.sections.now c.loop-i.at c.number_at-count.result (search rules) c.number_at-count.ensures) in
     omega (arith, end)
 
 pub loop-i-preserved : goal.loop-i-preserved

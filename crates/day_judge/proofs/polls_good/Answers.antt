@@ -23,7 +23,7 @@ use Rattle.day_judge.proofs.polls_good.Invariants.{polls_at}
 use Rattle.day_judge.proofs.polls_good.Goals as goal
 
 pub returns-then-sections-at-lt-NUMBER_BYTES : goal.returns-then-sections-at-lt-NUMBER_BYTES
-returns-then-sections-at-lt-NUMBER_BYTES c = let S = c.args in denied (λ claim. omega (arith, polls_short S.most (drop S.at S.sections.now) claim, length-drop S.at S.sections.now))
+returns-then-sections-at-lt-NUMBER_BYTES c = denied (λ claim. omega (arith, polls_short c.args.most (drop c.args.at c.args.sections.now) claim, length-drop c.args.at c.args.sections.now))
 
 pub returns-then-sections-start : goal.returns-then-sections-start
 returns-then-sections-start c =
@@ -40,7 +40,7 @@ returns-then-not-enter_poll c =
     let polls : List DayPoll = polls_at c.args.sections.now (c.args.at + 2) c.number_at-polls.result in
     let small : c.number_at-polls.result < 65536 = search rules in
     let tests : poll_test c.args.most c.loop-q.seen (read_poll (drop (c.args.at + 2 + 4 * c.loop-q.q) c.args.sections.now)).value ≡ poll_passes c.args.most polls c.loop-q.q = ap (λ m. poll_test c.args.most m (read_poll (drop (c.args.at + 2 + 4 * c.loop-q.q) c.args.sections.now)).value) c.loop-q.invariant.1 ∙ poll_rules c.args.sections.now c.args.at c.number_at-polls.result small c.number_at-polls.ensures c.args.most c.loop-q.q (omega arith) (omega arith) in
-    denied (λ claim. c.enter_poll.ensures.0.no (c.if-not-enter_poll.true) (record {
+    denied (λ claim. c.enter_poll.ensures.0.no c.if-not-enter_poll.true (record {
       laid = polls_row c.args.sections.now c.args.at c.number_at-polls.result small c.number_at-polls.ensures c.args.most claim c.loop-q.q (omega arith);
       rules = tests ∙ polls_rule c.args.sections.now c.args.at c.number_at-polls.result small c.number_at-polls.ensures c.args.most claim c.loop-q.q (omega arith);
     }))
@@ -50,7 +50,7 @@ loop-q-preserved c =
     let polls : List DayPoll = polls_at c.args.sections.now (c.args.at + 2) c.number_at-polls.result in
     let small : c.number_at-polls.result < 65536 = search rules in
     let tests : poll_test c.args.most c.loop-q.seen (read_poll (drop (c.args.at + 2 + 4 * c.loop-q.q) c.args.sections.now)).value ≡ poll_passes c.args.most polls c.loop-q.q = ap (λ m. poll_test c.args.most m (read_poll (drop (c.args.at + 2 + 4 * c.loop-q.q) c.args.sections.now)).value) c.loop-q.invariant.1 ∙ poll_rules c.args.sections.now c.args.at c.number_at-polls.result small c.number_at-polls.ensures c.args.most c.loop-q.q (omega arith) (omega arith) in
-    let good = c.enter_poll.ensures.0.yes (c.if-not-enter_poll.false) in
+    let good = c.enter_poll.ensures.0.yes c.if-not-enter_poll.false in
     let numbers = polled_in polls in (
       omega arith,
       c.enter_poll.ensures.1

@@ -1,4 +1,4 @@
-use Prim.Native.Nat.{ℕ, ◌+◌, ◌-◌, ◌≤◌}
+use Prim.Native.Nat.{ℕ, ◌+◌, ◌≤◌}
 use mathlib.Core.Path.{◌≡◌}
 use mathlib.Core.Bool.{not}
 use mathlib.Core.List.{List}
@@ -19,6 +19,3 @@ abbrev pub invariant-loop-q : goal.invariant-loop-q
 invariant-loop-q l =
     (l.q ≤ l.polls) × (l.seen ≡ set_below (polled_in (polls_at l.sections (l.at + 2) l.polls)) l.q) × HoldsMany poll_bytes read_poll l.q (drop (l.at + 2) l.sections)
     × Searched (λ k. not (poll_passes l.most (polls_at l.sections (l.at + 2) l.polls) k)) l.polls l.q
-
-abbrev pub decreases-loop-q : goal.decreases-loop-q
-decreases-loop-q l = l.polls - l.q

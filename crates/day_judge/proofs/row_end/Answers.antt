@@ -8,7 +8,7 @@ use Rattle.day_judge.proofs.Rows.{row_short, row_fields, row_room, row_parents, 
 use Rattle.day_judge.proofs.row_end.Goals as goal
 
 pub returns-then-sections-at-lt-PARENTS : goal.returns-then-sections-at-lt-PARENTS
-returns-then-sections-at-lt-PARENTS c = let S = c.args in row_short S.sections.now S.at S.j (omega arith)
+returns-then-sections-at-lt-PARENTS c = row_short c.args.sections.now c.args.at c.args.j (omega arith)
 
 pub returns-then-not-fields_good : goal.returns-then-not-fields_good
 returns-then-not-fields_good c =

@@ -6,6 +6,3 @@ use Rattle.day_marks.proofs.bookings_end.Given as goal
 
 abbrev pub invariant-loop-j : goal.invariant-loop-j
 invariant-loop-j l = (l.j ≤ l.count) × (l.at ≤ length l.file) × (drop l.at l.file ≡ (read_many read_booking l.j (drop l.start l.file)).rest)
-
-abbrev pub decreases-loop-j : goal.decreases-loop-j
-decreases-loop-j l = l.count - l.j

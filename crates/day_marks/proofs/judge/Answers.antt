@@ -29,9 +29,9 @@ returns-then-not-numbers_good c =
     let bs : List DayBooking = (decode c.args.file.now).bookings in
     let many : c.number_at-n.result + 1 ≡ length bs + 1 = ap (λ (k : ℕ). k + 1) (c.number_at-n.ensures.0 ∙ ap (λ l. (read_number l).value) c.bookings_start.ensures.1 ∙ sym (bookings_many c.args.file.now)) in
     let section : List ℕ = take (length c.args.file.now - c.day_end-end.result) (drop c.day_end-end.result c.args.file.now) in
-    let cut : section ≡ drop c.day_end-end.result (c.args.file.now) = take_all (length c.args.file.now - c.day_end-end.result) (drop c.day_end-end.result c.args.file.now) (omega (arith, length-drop c.day_end-end.result c.args.file.now)) in
+    let cut : section ≡ drop c.day_end-end.result c.args.file.now = take_all (length c.args.file.now - c.day_end-end.result) (drop c.day_end-end.result c.args.file.now) (omega (arith, length-drop c.day_end-end.result c.args.file.now)) in
     numbers_bad c.args.file.now c.day_end-end.result within there good (λ claim.
-    c.numbers_good.ensures.no (c.if-not-numbers_good.true)
+    c.numbers_good.ensures.no c.if-not-numbers_good.true
     (subst (λ k. NumbersGood k section) (sym many) (subst (NumbersGood (length bs + 1)) (sym cut) claim)))
 
 pub slots_differ-requires : goal.slots_differ-requires
@@ -42,7 +42,7 @@ slots_differ-requires c =
     let bs : List DayBooking = (decode c.args.file.now).bookings in
     let many : c.number_at-n.result + 1 ≡ length bs + 1 = ap (λ (k : ℕ). k + 1) (c.number_at-n.ensures.0 ∙ ap (λ l. (read_number l).value) c.bookings_start.ensures.1 ∙ sym (bookings_many c.args.file.now)) in
     let section : List ℕ = take (length c.args.file.now - c.day_end-end.result) (drop c.day_end-end.result c.args.file.now) in
-    let numbers : NumbersGood (length bs + 1) (section) = subst (λ k. NumbersGood k section) many (c.numbers_good.ensures.yes (c.if-not-numbers_good.false)) in
+    let numbers : NumbersGood (length bs + 1) section = subst (λ k. NumbersGood k section) many (c.numbers_good.ensures.yes c.if-not-numbers_good.false) in
     (numbers, front_slots c.args.file.now c.day_end-end.result within there good)
 
 pub returns-then-not-slots_differ : goal.returns-then-not-slots_differ
@@ -52,8 +52,8 @@ returns-then-not-slots_differ c =
     let good : good_file (take c.day_end-end.result c.args.file.now) ≡ true = sym c.is_good.ensures ∙ c.if-not-is_good.false in
     let bs : List DayBooking = (decode c.args.file.now).bookings in
     let section : List ℕ = take (length c.args.file.now - c.day_end-end.result) (drop c.day_end-end.result c.args.file.now) in
-    let cut : section ≡ drop c.day_end-end.result (c.args.file.now) = take_all (length c.args.file.now - c.day_end-end.result) (drop c.day_end-end.result c.args.file.now) (omega (arith, length-drop c.day_end-end.result c.args.file.now)) in
-    let asked : c.slots_differ.result ≡ slots_differ bs (marks_in (drop c.day_end-end.result c.args.file.now)) = c.slots_differ.ensures ∙ ap (λ l. slots_differ bs (marks_in l)) (cut) in
+    let cut : section ≡ drop c.day_end-end.result c.args.file.now = take_all (length c.args.file.now - c.day_end-end.result) (drop c.day_end-end.result c.args.file.now) (omega (arith, length-drop c.day_end-end.result c.args.file.now)) in
+    let asked : c.slots_differ.result ≡ slots_differ bs (marks_in (drop c.day_end-end.result c.args.file.now)) = c.slots_differ.ensures ∙ ap (λ l. slots_differ bs (marks_in l)) cut in
     slots_bad c.args.file.now c.day_end-end.result within there good (sym asked ∙ c.if-not-slots_differ.true)
 
 pub returns : goal.returns
@@ -64,8 +64,8 @@ returns c =
     let bs : List DayBooking = (decode c.args.file.now).bookings in
     let many : c.number_at-n.result + 1 ≡ length bs + 1 = ap (λ (k : ℕ). k + 1) (c.number_at-n.ensures.0 ∙ ap (λ l. (read_number l).value) c.bookings_start.ensures.1 ∙ sym (bookings_many c.args.file.now)) in
     let section : List ℕ = take (length c.args.file.now - c.day_end-end.result) (drop c.day_end-end.result c.args.file.now) in
-    let cut : section ≡ drop c.day_end-end.result (c.args.file.now) = take_all (length c.args.file.now - c.day_end-end.result) (drop c.day_end-end.result c.args.file.now) (omega (arith, length-drop c.day_end-end.result c.args.file.now)) in
-    let numbers : NumbersGood (length bs + 1) (section) = subst (λ k. NumbersGood k section) many (c.numbers_good.ensures.yes (c.if-not-numbers_good.false)) in
-    let asked : c.slots_differ.result ≡ slots_differ bs (marks_in (drop c.day_end-end.result c.args.file.now)) = c.slots_differ.ensures ∙ ap (λ l. slots_differ bs (marks_in l)) (cut) in
+    let cut : section ≡ drop c.day_end-end.result c.args.file.now = take_all (length c.args.file.now - c.day_end-end.result) (drop c.day_end-end.result c.args.file.now) (omega (arith, length-drop c.day_end-end.result c.args.file.now)) in
+    let numbers : NumbersGood (length bs + 1) section = subst (λ k. NumbersGood k section) many (c.numbers_good.ensures.yes c.if-not-numbers_good.false) in
+    let asked : c.slots_differ.result ≡ slots_differ bs (marks_in (drop c.day_end-end.result c.args.file.now)) = c.slots_differ.ensures ∙ ap (λ l. slots_differ bs (marks_in l)) cut in
     second_good c.args.file.now c.day_end-end.result within there good (subst (NumbersGood (length bs + 1)) cut numbers)
     (sym asked ∙ c.if-not-slots_differ.false)

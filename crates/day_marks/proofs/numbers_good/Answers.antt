@@ -43,7 +43,7 @@ returns-then-not-last-m c =
     let marks : List ℕ = marks_in c.args.section.now in
     let many : c.number_at-count.result ≡ length marks = c.number_at-count.ensures.0 ∙ sym (marks_many c.args.section.now) in
     let above : Bool = ltb c.loop-a.last c.mark_at-m.result in
-    let under : Bool = ltb c.mark_at-m.result (c.args.n) in
+    let under : Bool = ltb c.mark_at-m.result c.args.n in
     let l = c.loop-a in
     let here : c.loop-a.a - 1 + 1 ≡ c.loop-a.a = omega arith in
     denied (λ claim.

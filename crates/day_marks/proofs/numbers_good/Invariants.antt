@@ -8,6 +8,3 @@ use Rattle.day_marks.proofs.numbers_good.Given as goal
 abbrev pub invariant-loop-a : goal.invariant-loop-a
 invariant-loop-a l =
     (1 ≤ l.a) × (l.a ≤ l.count) × (l.last ≡ get_or (marks_in l.section) (l.a - 1) 0) × RisenTo l.n (marks_in l.section) l.a
-
-abbrev pub decreases-loop-a : goal.decreases-loop-a
-decreases-loop-a l = l.count - l.a

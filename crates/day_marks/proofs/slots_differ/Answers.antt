@@ -26,7 +26,7 @@ loop-a-init c =
     let marks : List ℕ = marks_in c.args.section.now in
     let many : c.number_at-count.result ≡ length marks = c.number_at-count.ensures.0 ∙ sym (marks_many c.args.section.now) in
     let risen : Risen (length bs + 1) marks = good_risen (length bs + 1) c.args.section.now c.requires.0 in
-    let slots : ℕ → ℕ = slot_of_mark bs (marks) in
+    let slots : ℕ → ℕ = slot_of_mark bs marks in
     let slots = slot_of_mark bs marks in (
       omega arith,
       omega (arith, many, risen.some),
@@ -71,11 +71,11 @@ returns-then-is_set c =
     let risen : Risen (length bs + 1) marks = good_risen (length bs + 1) c.args.section.now c.requires.0 in
     let above : c.loop-a.walked < c.mark_at-j.result = let here : c.loop-a.a - 1 + 1 ≡ c.loop-a.a = omega arith in omega (arith, c.loop-a.invariant.4, c.mark_at-j.ensures, rw here at (risen.all.rising (c.loop-a.a - 1) (omega (arith, many)))) in
     let few : c.mark_at-j.result < length bs + 1 = omega (arith, c.mark_at-j.ensures, risen.all.below c.loop-a.a (omega (arith, many))) in
-    let slots : ℕ → ℕ = slot_of_mark bs (marks) in
+    let slots : ℕ → ℕ = slot_of_mark bs marks in
     let walked-there : drop c.bookings_end-at.result c.args.file.now ≡ behind c.args.file.now (c.mark_at-j.result - 1) = behind_further c.args.file.now c.loop-a.walked (c.mark_at-j.result - 1) c.loop-a.at c.bookings_end-at.result (omega (arith, above)) c.loop-a.invariant.3 c.bookings_end-at.ensures.1 in
-    let slot_read : c.number_at-slot.result ≡ slots (c.loop-a.a) = slot_is c.args.file.now c.mark_at-j.result (omega (arith, above)) few _ c.bookings_end-at.result c.past.result c.number_at-slot.ensures.0 c.past.ensures.1 walked-there ∙ ap (slot_in bs) c.mark_at-j.ensures in
+    let slot_read : c.number_at-slot.result ≡ slots c.loop-a.a = slot_is c.args.file.now c.mark_at-j.result (omega (arith, above)) few _ c.bookings_end-at.result c.past.result c.number_at-slot.ensures.0 c.past.ensures.1 walked-there ∙ ap (slot_in bs) c.mark_at-j.ensures in
     let slot_small : slots c.loop-a.a < 512 = subst (λ k. slot_in bs k < 512) c.mark_at-j.ensures (slot_below c.args.file.now c.mark_at-j.result (omega (arith, above)) few c.requires.1) in
-    let asked : c.is_set.result ≡ slot_marked bs marks (c.loop-a.a) = c.is_set.ensures ∙ seen_is bs marks _ c.loop-a.a _ c.loop-a.invariant.5 slot_read (slot_small) in
+    let asked : c.is_set.result ≡ slot_marked bs marks c.loop-a.a = c.is_set.ensures ∙ seen_is bs marks _ c.loop-a.a _ c.loop-a.invariant.5 slot_read slot_small in
     sym (all_fails (λ b. not (slot_marked bs marks b)) (length marks) c.loop-a.a (omega (arith, many)) (ap not (sym asked ∙ c.if-is_set.true)))
 
 pub loop-a-preserved : goal.loop-a-preserved
@@ -86,11 +86,11 @@ loop-a-preserved c =
     let risen : Risen (length bs + 1) marks = good_risen (length bs + 1) c.args.section.now c.requires.0 in
     let above : c.loop-a.walked < c.mark_at-j.result = let here : c.loop-a.a - 1 + 1 ≡ c.loop-a.a = omega arith in omega (arith, c.loop-a.invariant.4, c.mark_at-j.ensures, rw here at (risen.all.rising (c.loop-a.a - 1) (omega (arith, many)))) in
     let few : c.mark_at-j.result < length bs + 1 = omega (arith, c.mark_at-j.ensures, risen.all.below c.loop-a.a (omega (arith, many))) in
-    let slots : ℕ → ℕ = slot_of_mark bs (marks) in
+    let slots : ℕ → ℕ = slot_of_mark bs marks in
     let walked-there : drop c.bookings_end-at.result c.args.file.now ≡ behind c.args.file.now (c.mark_at-j.result - 1) = behind_further c.args.file.now c.loop-a.walked (c.mark_at-j.result - 1) c.loop-a.at c.bookings_end-at.result (omega (arith, above)) c.loop-a.invariant.3 c.bookings_end-at.ensures.1 in
-    let slot_read : c.number_at-slot.result ≡ slots (c.loop-a.a) = slot_is c.args.file.now c.mark_at-j.result (omega (arith, above)) few _ c.bookings_end-at.result c.past.result c.number_at-slot.ensures.0 c.past.ensures.1 walked-there ∙ ap (slot_in bs) c.mark_at-j.ensures in
+    let slot_read : c.number_at-slot.result ≡ slots c.loop-a.a = slot_is c.args.file.now c.mark_at-j.result (omega (arith, above)) few _ c.bookings_end-at.result c.past.result c.number_at-slot.ensures.0 c.past.ensures.1 walked-there ∙ ap (slot_in bs) c.mark_at-j.ensures in
     let slot_small : slots c.loop-a.a < 512 = subst (λ k. slot_in bs k < 512) c.mark_at-j.ensures (slot_below c.args.file.now c.mark_at-j.result (omega (arith, above)) few c.requires.1) in
-    let asked : c.is_set.result ≡ slot_marked bs marks (c.loop-a.a) = c.is_set.ensures ∙ seen_is bs marks _ c.loop-a.a _ c.loop-a.invariant.5 slot_read (slot_small) in
+    let asked : c.is_set.result ≡ slot_marked bs marks c.loop-a.a = c.is_set.ensures ∙ seen_is bs marks _ c.loop-a.a _ c.loop-a.invariant.5 slot_read slot_small in
     let T = c.loop-a in
     let here : c.loop-a.a + 1 - 1 ≡ c.loop-a.a = omega arith in (
       omega arith,

@@ -17,6 +17,3 @@ abbrev pub invariant-loop-a : goal.invariant-loop-a
 invariant-loop-a l =
     (1 ≤ l.a) × (l.a ≤ l.count) × (l.at ≤ length l.file) × (drop l.at l.file ≡ behind l.file l.walked) × (l.walked ≤ get_or (marks_in l.section) (l.a - 1) 0)
     × (l.seen ≡ set_below (slot_of_mark (decode l.file).bookings (marks_in l.section)) l.a) × Searched (is_twice l.file l.section) l.count l.a
-
-abbrev pub decreases-loop-a : goal.decreases-loop-a
-decreases-loop-a l = l.count - l.a

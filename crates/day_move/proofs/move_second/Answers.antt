@@ -20,28 +20,28 @@ returns-then-end-eq0 c = bad_second c.args.file.now c.args.out.now (c.judge-end.
 pub has_same-requires : goal.has_same-requires
 has_same-requires c =
     let ends : SecondEnds c.args.file.now c.judge-end.result = c.judge-end.ensures.good c.if-end-eq0.false in
-    let words : c.replay.new.w ≡ w c.args.file.now c.judge-end.result (ends) = c.replay.ensures ∙ ap (λ d. (replay d).words) ends.day in
+    let words : c.replay.new.w ≡ w c.args.file.now c.judge-end.result ends = c.replay.ensures ∙ ap (λ d. (replay d).words) ends.day in
     let ledger : Ledger c.replay.new.w = subst Ledger (sym words) (words_ledger c.args.file.now c.judge-end.result ends) in
     (ledger.whole, ledger.sound.bookings_most, marks_there c.args.file.now c.judge-end.result ends)
 
 pub returns-then-not-has_same : goal.returns-then-not-has_same
 returns-then-not-has_same c =
     let ends : SecondEnds c.args.file.now c.judge-end.result = c.judge-end.ensures.good c.if-end-eq0.false in
-    let words : c.replay.new.w ≡ w c.args.file.now c.judge-end.result (ends) = c.replay.ensures ∙ ap (λ d. (replay d).words) ends.day in
+    let words : c.replay.new.w ≡ w c.args.file.now c.judge-end.result ends = c.replay.ensures ∙ ap (λ d. (replay d).words) ends.day in
     let told : c.has_same.result ≡ same_list (marks_of (replay (decode c.args.file.now)).words) (decode_marked c.args.file.now).marks = c.has_same.ensures ∙ ap₂ (λ v marks. same_list (marks_of v) marks) words (marks_are c.args.file.now c.judge-end.result ends) in
     other_second c.args.file.now c.args.out.now ends.whole (sym told ∙ c.if-not-has_same.true)
 
 pub write_first-requires : goal.write_first-requires
 write_first-requires c =
     let ends : SecondEnds c.args.file.now c.judge-end.result = c.judge-end.ensures.good c.if-end-eq0.false in
-    let words : c.replay.new.w ≡ w c.args.file.now c.judge-end.result (ends) = c.replay.ensures ∙ ap (λ d. (replay d).words) ends.day in
+    let words : c.replay.new.w ≡ w c.args.file.now c.judge-end.result ends = c.replay.ensures ∙ ap (λ d. (replay d).words) ends.day in
     let ledger : Ledger c.replay.new.w = subst Ledger (sym words) (words_ledger c.args.file.now c.judge-end.result ends) in
     ledger
 
 pub returns : goal.returns
 returns c =
     let ends : SecondEnds c.args.file.now c.judge-end.result = c.judge-end.ensures.good c.if-end-eq0.false in
-    let words : c.replay.new.w ≡ w c.args.file.now c.judge-end.result (ends) = c.replay.ensures ∙ ap (λ d. (replay d).words) ends.day in
+    let words : c.replay.new.w ≡ w c.args.file.now c.judge-end.result ends = c.replay.ensures ∙ ap (λ d. (replay d).words) ends.day in
     let ledger : Ledger c.replay.new.w = subst Ledger (sym words) (words_ledger c.args.file.now c.judge-end.result ends) in
     let told : c.has_same.result ≡ same_list (marks_of (replay (decode c.args.file.now)).words) (decode_marked c.args.file.now).marks = c.has_same.ensures ∙ ap₂ (λ v marks. same_list (marks_of v) marks) words (marks_are c.args.file.now c.judge-end.result ends) in
     let day = replayed_day (decode c.args.file.now) (good_taken Second c.args.file.now ends.whole) in

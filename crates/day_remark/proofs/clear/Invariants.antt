@@ -7,6 +7,3 @@ use Rattle.day_remark.proofs.clear.Given as goal
 
 abbrev pub invariant-loop-i : goal.invariant-loop-i
 invariant-loop-i l = (l.n ≡ bookings l.initial.w) × (l.i ≤ bookings l.initial.w) × (length l.w ≡ length l.initial.w) × (l.w ≡ unmarked_below l.i l.initial.w)
-
-abbrev pub decreases-loop-i : goal.decreases-loop-i
-decreases-loop-i l = bookings l.initial.w - l.i

@@ -9,6 +9,3 @@ use Rattle.day_remark.proofs.has_same.Given as goal
 abbrev pub invariant-loop-i : goal.invariant-loop-i
 invariant-loop-i l =
     (l.n ≡ bookings l.w) × (l.count ≡ length (marks_in l.section)) × (l.i ≤ bookings l.w) × Met l.w (marks_in l.section) l.next l.i
-
-abbrev pub decreases-loop-i : goal.decreases-loop-i
-decreases-loop-i l = bookings l.w - l.i

@@ -9,6 +9,3 @@ use Rattle.day_remark.proofs.remark.Given as goal
 abbrev pub invariant-loop-a : goal.invariant-loop-a
 invariant-loop-a l =
     (l.count ≡ length (marks_in l.section)) × (l.a ≤ l.count) × (length l.w ≡ size) × (l.w ≡ marked_again (marks_in l.section) l.a l.initial.w)
-
-abbrev pub decreases-loop-a : goal.decreases-loop-a
-decreases-loop-a l = l.count - l.a

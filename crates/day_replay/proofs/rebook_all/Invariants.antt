@@ -7,6 +7,3 @@ use Rattle.day_replay.proofs.rebook_all.Given as goal
 abbrev pub invariant-loop-j : goal.invariant-loop-j
 invariant-loop-j l =
     (length l.w ≡ length l.initial.w) × Booking l.file l.w l.at l.j
-
-abbrev pub decreases-loop-j : goal.decreases-loop-j
-decreases-loop-j l = l.count - l.j

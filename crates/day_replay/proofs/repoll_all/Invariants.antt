@@ -7,6 +7,3 @@ use Rattle.day_replay.proofs.repoll_all.Given as goal
 abbrev pub invariant-loop-q : goal.invariant-loop-q
 invariant-loop-q l =
     (length l.w ≡ length l.initial.w) × Polling l.file l.w l.next l.q
-
-abbrev pub decreases-loop-q : goal.decreases-loop-q
-decreases-loop-q l = l.count - l.q

@@ -8,6 +8,3 @@ use Rattle.day_sections.proofs.file_length.Given as goal
 abbrev pub invariant-loop-j : goal.invariant-loop-j
 invariant-loop-j l =
     (l.n ≡ bookings l.w) × (l.p ≡ polls l.w) × (l.j-end ≡ bookings l.w - 1) × (l.j ≤ bookings l.w - 1) × (l.rows ≡ total (booking_length l.w) l.j)
-
-abbrev pub decreases-loop-j : goal.decreases-loop-j
-decreases-loop-j l = bookings l.w - 1 - l.j

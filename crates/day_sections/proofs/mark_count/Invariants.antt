@@ -1,5 +1,5 @@
 use mathlib.Core.Path.{◌≡◌}
-use Prim.Native.Nat.{◌-◌, ◌≤◌}
+use Prim.Native.Nat.{◌≤◌}
 use lib.ListN.{length}
 use Rattle.rules.specs.Layout.{bookings}
 use Rattle.day_file.proofs.MarksSoFar.{marks_so_far}
@@ -7,6 +7,3 @@ use Rattle.day_sections.proofs.mark_count.Given as goal
 
 abbrev pub invariant-loop-i : goal.invariant-loop-i
 invariant-loop-i l = (l.n ≡ bookings l.w) × (l.i ≤ bookings l.w) × (l.marks ≡ length (marks_so_far l.w l.i))
-
-abbrev pub decreases-loop-i : goal.decreases-loop-i
-decreases-loop-i l = bookings l.w - l.i

@@ -22,7 +22,7 @@ put_number-requires c =
     let s : Setting = setting_in c.args.w.now in
     let numbers : c.setting.result.now ≡ four s = c.setting.ensures ∙ four_words c.args.w.now in
     let later : s.edition ≡ 0 → ⊥ = λ e. c.if-edition-eq0.false (c.header-edition.ensures ∙ e) in
-    omega (arith, put_past 2 (length_high_first 2 _) c.put_number-next.ensures, four_past s numbers c.put_numbers-end.ensures, later_room s (later), c.requires.1)
+    omega (arith, put_past 2 (length_high_first 2 _) c.put_number-next.ensures, four_past s numbers c.put_numbers-end.ensures, later_room s later, c.requires.1)
 
 pub returns : goal.returns
 returns c =

@@ -30,19 +30,19 @@ put_bookings-requires c =
 pub overflow_add-third : goal.overflow_add-third
 overflow_add-third c =
     let after : List ℕ = around c.put_setting-second.new.out c.put_setting-second.result c.put_bookings.new.out in
-    let third_at : (c.put_setting-second.result + c.put_bookings.result ≤ length after) × (length after ≡ length c.args.out.now) = let known = after_second c.args.w.now c.args.out.now c.requires.1 c.put_setting-second.ensures c.put_bookings.ensures in (omega (arith, known, length_day_file (c.args.w.now), c.requires.1), known.1) in
+    let third_at : (c.put_setting-second.result + c.put_bookings.result ≤ length after) × (length after ≡ length c.args.out.now) = let known = after_second c.args.w.now c.args.out.now c.requires.1 c.put_setting-second.ensures c.put_bookings.ensures in (omega (arith, known, length_day_file c.args.w.now, c.requires.1), known.1) in
     omega (arith, third_at)
 
 pub slice_bounds-put_polls-count : goal.slice_bounds-put_polls-count
 slice_bounds-put_polls-count c =
     let after : List ℕ = around c.put_setting-second.new.out c.put_setting-second.result c.put_bookings.new.out in
-    let third_at : (c.put_setting-second.result + c.put_bookings.result ≤ length after) × (length after ≡ length c.args.out.now) = let known = after_second c.args.w.now c.args.out.now c.requires.1 c.put_setting-second.ensures c.put_bookings.ensures in (omega (arith, known, length_day_file (c.args.w.now), c.requires.1), known.1) in
+    let third_at : (c.put_setting-second.result + c.put_bookings.result ≤ length after) × (length after ≡ length c.args.out.now) = let known = after_second c.args.w.now c.args.out.now c.requires.1 c.put_setting-second.ensures c.put_bookings.ensures in (omega (arith, known, length_day_file c.args.w.now, c.requires.1), known.1) in
     third_at.0
 
 pub slice_bounds-put_polls-start : goal.slice_bounds-put_polls-start
 slice_bounds-put_polls-start c =
     let after : List ℕ = around c.put_setting-second.new.out c.put_setting-second.result c.put_bookings.new.out in
-    let third_at : (c.put_setting-second.result + c.put_bookings.result ≤ length after) × (length after ≡ length c.args.out.now) = let known = after_second c.args.w.now c.args.out.now c.requires.1 c.put_setting-second.ensures c.put_bookings.ensures in (omega (arith, known, length_day_file (c.args.w.now), c.requires.1), known.1) in
+    let third_at : (c.put_setting-second.result + c.put_bookings.result ≤ length after) × (length after ≡ length c.args.out.now) = let known = after_second c.args.w.now c.args.out.now c.requires.1 c.put_setting-second.ensures c.put_bookings.ensures in (omega (arith, known, length_day_file c.args.w.now, c.requires.1), known.1) in
     third_at.0
 
 pub put_polls-requires : goal.put_polls-requires

@@ -25,4 +25,4 @@ returns c =
     let counted = c.file_length-length.ensures in
     let value : to_z w64 c.file_length-length.result ≡ pos (length (day_file c.args.w.now)) =
     to_z_pos w64 _ (omega (arith, counted, day_file_most c.args.w.now c.requires, edition_length_most (setting_in c.args.w.now).edition)) ∙ ap pos counted in
-    ap₂ (λ v l. handover (Taken v) c.args.w.now l) value c.put_day.ensures ∙ taken c.args.w.now First c.args.out.now c.requires (room)
+    ap₂ (λ v l. handover (Taken v) c.args.w.now l) value c.put_day.ensures ∙ taken c.args.w.now First c.args.out.now c.requires room

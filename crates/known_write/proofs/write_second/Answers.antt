@@ -37,9 +37,9 @@ returns-then-out-length c =
 pub returns : goal.returns
 returns c =
     let whole : (c.file_length-day.result + (2 + 2 * c.mark_count.result) ≡ length (file_of Second c.args.w.now)) × (length (file_of Second c.args.w.now) ≤ 13294) = (omega (arith, c.file_length-day.ensures, c.mark_count.ensures, length_second_form c.args.w.now), second_form_most c.args.w.now c.requires) in
-    let room : length (file_of Second c.args.w.now) ≤ length (c.args.out.now) = omega (arith, whole, c.if-out-length.false) in
+    let room : length (file_of Second c.args.w.now) ≤ length c.args.out.now = omega (arith, whole, c.if-out-length.false) in
     let value : to_z w64 (c.file_length-day.result + (2 + 2 * c.mark_count.result)) ≡ pos (length (file_of Second c.args.w.now)) =
     to_z_pos w64 _ (omega (arith, whole)) ∙ ap pos whole.0 in
     ap₂ (λ v l. handover (Taken v) c.args.w.now l) value
     (second_laid c.args.w.now c.args.out.now room c.put_day.ensures c.file_length-day.ensures c.put_marks.ensures)
-    ∙ taken c.args.w.now Second c.args.out.now c.requires (room)
+    ∙ taken c.args.w.now Second c.args.out.now c.requires room
