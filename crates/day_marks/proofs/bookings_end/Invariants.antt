@@ -1,5 +1,5 @@
 use mathlib.Core.Path.{◌≡◌}
-use Prim.Native.Nat.{◌-◌, ◌≤◌}
+use Prim.Native.Nat.{◌≤◌}
 use lib.ListN.{length, drop}
 use Rattle.day_file.specs.Decode.{read_many, read_booking}
 use Rattle.day_marks.proofs.bookings_end.Given as goal

@@ -1,5 +1,4 @@
 use mathlib.Core.Path.{◌≡◌}
-use Prim.Native.Nat.{◌-◌}
 use lib.ListN.{length}
 use Rattle.day_replay.proofs.GoodFile.{Booking}
 use Rattle.day_replay.proofs.rebook_all.Given as goal
