@@ -27,6 +27,7 @@ ghost use Rattle.std.specs.Prelude.{◌≤◌, length};
 
 use line_scan::step::Step;
 use rules::layout;
+use std::io::{Read, Stdin, Stdout};
 use terms::answer::Answer;
 
 // The words of a workspace, and one more.
@@ -35,7 +36,7 @@ const LONG: usize = layout::SIZE + 1;
 type Words = [u16; LONG];
 
 // What a line did: a call gave an answer, a reading was asked, so many calls were taken, or nothing that is told.
-#[derive(Drop)]
+#[derive(Clone, Copy)]
 pub enum Done {
     Gave(Answer),
     Asked(Answer),
@@ -43,11 +44,25 @@ pub enum Done {
     Nothing,
 }
 
+// Where a byte stands first from a place on, or the end.
+fn find(text: &[u8], from: usize, byte: u8) -> usize
+    requires { from ≤ length text.now }
+    ensures behind { from ≤ result }
+    ensures within { result ≤ length text.now }
+{
+    for j in from..text.len() {
+        if text[j] == byte {
+            return j;
+        }
+    }
+    text.len()
+}
+
 // A line up to the space before its bar.
 fn command_end(line: &[u8]) -> usize
     ensures { result ≤ length line.now }
 {
-    let bar = bytes::scan::find(line, 0, line.len(), b'|');
+    let bar = find(line, 0, b'|');
     if bar < 1 {
         return 0;
     }
@@ -94,17 +109,17 @@ fn same(a: &Words, b: &Words) -> bool {
     true
 }
 
-fn tell(line: &[u8], first: u8, w: &mut Words, lent: usize) {
+fn tell(to: Stdout, line: &[u8], first: u8, w: &mut Words, lent: usize) {
     let before = *w;
     let done = lent_work(line, first, w, lent);
-    show::done(same(&before, w), done);
+    show::done(to, same(&before, w), done);
 }
 
 // The cells are the first of as many words as a ledger may be lent, so that one written past them is seen.
-fn tell_index(line: &[u8], w: &Words, lent: usize, cells: &mut Words) {
+fn tell_index(to: Stdout, line: &[u8], w: &Words, lent: usize, cells: &mut Words) {
     let before = *cells;
     let done = lent_index(line, w, lent, cells);
-    show::done(same(&before, cells), done);
+    show::done(to, same(&before, cells), done);
 }
 
 // `words n`.
@@ -117,47 +132,70 @@ fn lend(line: &[u8]) -> usize {
 }
 
 // Obeys a line, and answers how many words are lent from here on.
-fn obey(line: &[u8], w: &mut Words, noted: &mut Words, cells: &mut Words, lent: usize) -> usize {
-    show::text(line);
+fn obey(
+    to: Stdout,
+    line: &[u8],
+    w: &mut Words,
+    noted: &mut Words,
+    cells: &mut Words,
+    lent: usize,
+) -> usize {
+    show::text(to, line);
     if line.len() < 1 {
-        show::text(b"\n");
+        show::text(to, b"\n");
         return lent;
     }
     let first = line[0];
     match first {
         b'w' => {
-            show::text(b"\n");
+            show::text(to, b"\n");
             return lend(line);
         }
         b'n' => {
-            show::text(b"\n");
+            show::text(to, b"\n");
             *noted = *w;
         }
         b'u' => {
-            show::text(b"\n");
+            show::text(to, b"\n");
             *w = *noted;
         }
-        b'i' => tell_index(line, w, lent, cells),
-        _ => tell(line, first, w, lent),
+        b'i' => tell_index(to, line, w, lent, cells),
+        _ => tell(to, line, first, w, lent),
     }
     lent
 }
 
-fn run(script: &[u8]) {
+fn run(to: Stdout, script: &[u8]) {
     let mut w: Words = [0; LONG];
     let mut noted: Words = [0; LONG];
     let mut cells: Words = [0; LONG];
     let mut lent = layout::SIZE;
     let mut at = 0;
     while at < script.len() {
-        let end = bytes::scan::find(script, at, script.len(), b'\n');
-        lent = obey(&script[at..end], &mut w, &mut noted, &mut cells, lent);
+        let end = find(script, at, b'\n');
+        lent = obey(to, &script[at..end], &mut w, &mut noted, &mut cells, lent);
         at = end + 1;
     }
 }
 
-fn main() {
-    let mut script = io::large_buffer();
-    let n = io::read_full(0, &mut script);
-    run(&script[..n]);
+// Reads until the input ends, a read fails or the buffer is full, and answers how many bytes there are.
+fn read_script(mut from: Stdin, script: &mut [u8]) -> usize
+    ensures { result ≤ length script.old }
+{
+    let mut count = 0;
+    while count < script.len() {
+        let answer = from.read(&mut script[count..]);
+        match answer {
+            Ok(0) => return count,
+            Ok(more) => count += more,
+            Err(_) => return count,
+        }
+    }
+    count
+}
+
+fn main(rt: HostRuntime) {
+    let mut script = [0u8; 65536];
+    let n = read_script(rt.stdin(), &mut script);
+    run(rt.stdout(), &script[..n]);
 }
