@@ -3,13 +3,14 @@
 #![tactic(auto)]
 
 ghost use Rattle.std.specs.Prelude.{◌≡◌, true, ◌≤◌, length};
-ghost use Rattle.text_program.specs.Program.{zeros, lines};
+ghost use Rattle.std.specs.Io.KnownBytes.{Appends};
+ghost use Rattle.text_program.specs.Program.{zeros, lines, printed, program};
 ghost use Rattle.text_program.specs.Piece.{words_after};
 ghost use Rattle.console.specs.Console.{got_of, Fits, Within, Begun, words_left};
 
 use rules::layout;
 use std::io;
-use std::io::{Print, Read, Stdin, Stdout};
+use std::io::{Read, Stdin, Stdout, Write};
 use text_program::INPUT_MOST;
 
 // How many bytes are gathered at most before they are written.
@@ -66,12 +67,14 @@ fn read_input(from: Stdin, input: &mut [u8]) -> Input
     Input::Whole(count)
 }
 
-// Writes all that was put into a buffer, or tells that it failed. It is handed standard output and nothing else, as its type says.
-// std's own `write_all` would write again after a write that a signal stopped; here any write that fails is the last.
-fn write_out(to: Stdout, bytes: &[u8]) -> bool {
+// Writes all that was put into a buffer, or tells that it failed. A write that fails is the last: std's own `write_all` would write
+// again after one that a signal stopped.
+fn write_out<W: Write>(to: &mut W, bytes: &[u8]) -> bool
+    ensures { result ≡ true → Appends (W.contents to.old) (W.contents to.new) bytes.now }
+{
     let mut done = 0;
     while done < bytes.len() {
-        match to.write_some(&bytes[done..]) {
+        match to.write(&bytes[done..]) {
             Ok(0) => return false,
             Ok(count) => done += count,
             Err(_) => return false,
@@ -81,9 +84,10 @@ fn write_out(to: Stdout, bytes: &[u8]) -> bool {
 }
 
 // Serves the lines piece by piece and writes each piece, whole, before the next is served. False as soon as a write fails.
-fn serve_lines(to: Stdout, w: &mut [u16], input: &[u8], out: &mut [u8]) -> bool
+fn serve_lines<W: Write>(to: &mut W, w: &mut [u16], input: &[u8], out: &mut [u8]) -> bool
     requires { Begun w.old out.old }
-    ensures { result ≡ true → w.new ≡ words_after zeros (lines input.now) }
+    ensures words { result ≡ true → w.new ≡ words_after zeros (lines input.now) }
+    ensures written { result ≡ true → Appends (W.contents to.old) (W.contents to.new) (printed zeros (lines input.now)) }
 {
     let mut known = false;
     let mut start = 0;
@@ -100,15 +104,24 @@ fn serve_lines(to: Stdout, w: &mut [u16], input: &[u8], out: &mut [u8]) -> bool
 }
 
 // An input that is too long is told so, and none of its lines is served.
-fn serve_input(to: Stdout, w: &mut [u16], input: &[u8], out: &mut [u8]) -> bool
+fn serve_input<W: Write>(to: &mut W, w: &mut [u16], input: &[u8], out: &mut [u8]) -> bool
     requires { Begun w.old out.old }
-    ensures { result ≡ true → w.new ≡ words_left input.now }
+    ensures words { result ≡ true → w.new ≡ words_left input.now }
+    ensures written { result ≡ true → Appends (W.contents to.old) (W.contents to.new) (program input.now) }
 {
     if text_program::is_too_long(input.len()) {
         let count = text_print::put_too_long(out, 0);
         return write_out(to, &out[..count]);
     }
     serve_lines(to, w, input, out)
+}
+
+// What is served is written to standard output and to nothing else: the type says so, and no other handle is passed on.
+fn serve_output(mut to: Stdout, w: &mut [u16], input: &[u8], out: &mut [u8]) -> bool
+    requires { Begun w.old out.old }
+    ensures { result ≡ true → w.new ≡ words_left input.now }
+{
+    serve_input(&mut to, w, input, out)
 }
 
 // One byte more than the longest input is asked for, so that a longer one is seen. The workspace starts all zero.
@@ -120,7 +133,7 @@ fn main(rt: HostRuntime) {
     };
     let mut w = [0u16; layout::SIZE];
     let mut out = [0u8; GATHERED];
-    if !serve_input(rt.stdout(), &mut w, &input[..count], &mut out) {
+    if !serve_output(rt.stdout(), &mut w, &input[..count], &mut out) {
         let _ = eprintln!(rt; "console: standard output could not be written");
     }
 }

@@ -18,7 +18,7 @@ use Rattle.text_program.specs.Piece.{line_end, words_after, Gathered, more, gath
 use Rattle.text_program.proofs.Lines.{end_le, lines_at}
 
 -- the bytes stand at the start of the buffer
-put_front : {out out' : List ℕ} {n : ℕ} {xs : List ℕ} → Put out 0 xs n out' → length xs ≤ length out → take n out' ≡ xs
+pub put_front : {out out' : List ℕ} {n : ℕ} {xs : List ℕ} → Put out 0 xs n out' → length xs ≤ length out → take n out' ≡ xs
 put_front {out} {n = n} {xs = xs} p h =
     ap (take n) (p.after ∙ sets-eq xs out 0 (omega arith)) ∙ take_at xs (drop (0 + length xs) out) n (omega (arith, p.next))
 
