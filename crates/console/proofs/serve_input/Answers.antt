@@ -11,7 +11,7 @@ returns-then-is_too_long-clause-written g c h =
     let put = c.put_too_long-count.ensures in
     let long : input_most < length c.args.input.now = ltb-true _ _ (sym c.is_too_long.ensures ∙ c.if-is_too_long.true) in
     let told : take c.put_too_long-count.result c.put_too_long-count.new.out ≡ too_long = put_front put (omega (arith, c.requires.room)) in
-    rw (program_long c.args.input.now long) (rw told at (c.write_out.ensures h))
+    rw (program_long c.args.input.now long, ← told) (c.write_out.ensures h)
 
 pub returns-clause-written : goal.returns-clause-written
 returns-clause-written g c h =
