@@ -1,28 +1,17 @@
 -- What the code of the rule goes by on a ledger: a used parent place holds a booking's number, and a counter that is too low is too low for both arms.
 use mathlib.Core.Path.{◌≡◌, refl, sym, ◌∙◌}
-use mathlib.Core.Bool.{false, true≢false, not, and-false, or-false}
+use mathlib.Core.Bool.{false, true≢false, and-false, or-false}
 use mathlib.Core.List.{List}
 use mathlib.Core.Logic.{◌≢◌}
 use Prim.Native.Nat.{ℕ, ◌<◌}
 use native.Mathlib.Omega.{arith}
 use lib.Dec.{eqb}
-use borrow.Author.Tests.{eq-eqb, ne_eqb}
 use Rattle.loops.proofs.Bools.{refuted}
 use Rattle.terms.proofs.Editions.{enough_lower}
-use Rattle.rules.specs.Layout.{most_bookings, most_parents, none, bookings, setting_in, slot_of, parent_of, is_marked, counter_in}
+use Rattle.rules.specs.Layout.{most_bookings, most_parents, none, bookings, setting_in, slot_of, parent_of, counter_in}
 use Rattle.rules.specs.Sound.{Ledger}
 use Rattle.rules.specs.Marks.{counter_enough, meets_rule}
 use Rattle.rule_laws.proofs.Ancestry.{Parent_lt}
-use Rattle.acceptance_rule.specs.Steps.{unmarked_parent}
-
--- ---- a parent place, on any words
-
-module _ (w : List ℕ) (j a : ℕ) where
-  pub unmarked_parent_unused : parent_of w j a ≡ none → unmarked_parent w j a ≡ false
-  unmarked_parent_unused e = rw (eq-eqb (parent_of w j a) none e)
-
-  pub unmarked_parent_used : parent_of w j a ≢ none → unmarked_parent w j a ≡ not (is_marked w (parent_of w j a))
-  unmarked_parent_used d = rw (ne_eqb (parent_of w j a) none d)
 
 -- ---- on a ledger
 

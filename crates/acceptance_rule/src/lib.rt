@@ -2,10 +2,9 @@
 #![tactic(auto)]
 
 ghost use Rattle.std.specs.Prelude.{◌≡◌, ◌<◌};
-ghost use Rattle.loops.specs.Search.{first};
 ghost use Rattle.rules.specs.Layout.{most_parents, bookings};
 ghost use Rattle.rules.specs.Sound.{Ledger};
-ghost use Rattle.rules.specs.Marks.{counter_enough, first_arm, second_arm, meets_rule};
+ghost use Rattle.rules.specs.Marks.{parents_marked, counter_enough, first_arm, second_arm, meets_rule};
 ghost use Rattle.acceptance_rule.specs.Steps.{unmarked_parent};
 
 use booking_reads::booking;
@@ -18,23 +17,15 @@ fn is_unmarked(w: &[u16], j: usize, a: usize) -> bool
     ensures { result ≡ unmarked_parent w.now j a }
 {
     let p = words::parent(w, j, a);
-    if p == words::wide(layout::NONE) {
-        return false;
-    }
-    !booking::is_accepted(w, p)
+    p != words::wide(layout::NONE) && !booking::is_accepted(w, p)
 }
 
-// The first such place, or how many places there are.
-fn first_unmarked(w: &[u16], j: usize) -> usize
+// Every parent is marked.
+fn parents_marked(w: &[u16], j: usize) -> bool
     requires { Ledger w.now × (j < bookings w.now) }
-    ensures { result ≡ first (unmarked_parent w.now j) most_parents }
+    ensures { result ≡ parents_marked w.now j }
 {
-    for a in 0..layout::MOST_PARENTS {
-        if is_unmarked(w, j, a) {
-            return a;
-        }
-    }
-    layout::MOST_PARENTS
+    !(0..layout::MOST_PARENTS).any(|a| is_unmarked(w, j, a))
 }
 
 // The counter of j's slot is enough for beta: above it, or at least by the edition.
@@ -54,7 +45,7 @@ fn first_arm(w: &[u16], j: usize) -> bool
     requires { Ledger w.now × (j < bookings w.now) }
     ensures { result ≡ first_arm w.now j }
 {
-    (first_unmarked(w, j) == layout::MOST_PARENTS)
+    parents_marked(w, j)
         & (booking::entry_of(w, j, layout::HELD) == 1)
         & has_enough(w, j, words::header(w, layout::BETA1))
 }

@@ -1,4 +1,5 @@
 // Who is reached from a booking, each member once: eight words, in which bit j is that of booking j.
+// Members are lent as a slice of eight words, as the public contracts have it.
 #![tactic(auto)]
 
 ghost use Rattle.std.specs.Prelude.{◌≡◌, ◌+◌, ◌*◌, ◌/◌, ◌<◌, ◌≤◌, length};
@@ -24,9 +25,7 @@ fn sweep_word(w: &[u16], m: &mut [u64], q: usize, n: usize)
     ensures { sweep w.now (64 * q) (members_in m.new) ≡ sweep w.now n (members_in m.old) }
 {
     let mut own = m[q];
-    let mut j = n;
-    while bits::WORD_BITS * q < j {
-        j -= 1;
+    for j in (bits::WORD_BITS * q..n).rev() {
         own = spread_one(w, m, own, j);
     }
     m[q] = own;
@@ -37,11 +36,8 @@ fn sweep_down(w: &[u16], m: &mut [u64], n: usize)
     requires { Ledger w.now × (n ≤ bookings w.now) × (length m.old ≡ bit_words) }
     ensures { members_in m.new ≡ sweep w.now n (members_in m.old) }
 {
-    let mut j = n;
-    while 0 < j {
-        let q = (j - 1) / bits::WORD_BITS;
-        sweep_word(w, m, q, j);
-        j = bits::WORD_BITS * q;
+    for q in (0..n.div_ceil(bits::WORD_BITS)).rev() {
+        sweep_word(w, m, q, bits::word_end(bits::WORD_BITS * q, n));
     }
 }
 

@@ -15,15 +15,14 @@ pub fn gather_parents(w: &[u16], m: &mut [u64], own: u64, j: usize) -> u64
     ensures { members_with m.new (j / 64) result ≡ with_parents w.now j (members_with m.old (j / 64) own) }
 {
     let mut word = own;
-    for a in 0..layout::MOST_PARENTS {
-        let p = words::parent(w, j, a);
+    for parent in words::fields(w, j, layout::PARENTS, layout::MOST_PARENTS) {
+        let p = usize::from(*parent);
         if p / bits::WORD_BITS == j / bits::WORD_BITS {
             word = bits::with_bit(word, p % bits::WORD_BITS);
-        } else {
+        } else if layout::MOST_BOOKINGS <= p {
             // no booking's number: the place is unused, and so are those after it
-            if layout::MOST_BOOKINGS <= p {
-                return word;
-            }
+            return word;
+        } else {
             bits::set_bit(m, p);
         }
     }

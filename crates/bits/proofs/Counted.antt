@@ -7,9 +7,11 @@ use native.Mathlib.Omega.{arith}
 use lib.Arith.{lt-one}
 use lib.Count.{ones, ones_step}
 use lib.Dec.{eqb}
-use lib.ListN.{get_or}
+use lib.ListN.{length, get_or}
+use Rattle.std.specs.List.{sum_by}
 use lib.Pow.{shr-shr}
 use Rattle.loops.specs.Total.{bit, total, count}
+use Rattle.loops.proofs.Elements.{sum_elements}
 use Rattle.loops.proofs.Total.{total_zero, total_same, total_split}
 use Rattle.bits.specs.Bits.{bit_in, bit_at, ones_in}
 use Rattle.bits.proofs.Bits.{bit_at_place}
@@ -53,3 +55,14 @@ count_word m q =
     let next : 64 * (q + 1) ≡ 64 * q + 64 = omega arith in
     ap (count (bit_at m)) next ∙ total_split (λ j. bit (bit_at m j)) (64 * q) 64
     ∙ ap (λ (n : ℕ). count (bit_at m) (64 * q) + n) (total_same _ _ 64 (λ k l. ap bit (bit_at_place m q k l)))
+
+-- the ones of n words, summed
+count_rows : (m : List ℕ) (n : ℕ) → total (λ q. ones_in (get_or m q 0)) n ≡ count (bit_at m) (64 * n)
+unfolding total
+count_rows m zero = refl
+count_rows m (suc n) =
+    let next : 64 * (n + 1) ≡ 64 * suc n = omega arith in
+    ap (λ (x : ℕ). x + ones_in (get_or m n 0)) (count_rows m n) ∙ sym (count_word m n) ∙ ap (count (bit_at m)) next
+
+pub count_words : (m : List ℕ) {n : ℕ} → length m ≡ n → sum_by ones_in m ≡ count (bit_at m) (64 * n)
+count_words m e = sum_elements ones_in m ∙ rw e (count_rows m _)

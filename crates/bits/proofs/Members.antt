@@ -14,7 +14,7 @@ use Rattle.loops.specs.Total.{bit, count}
 use Rattle.loops.proofs.Fill.{length_from, get_d_from}
 use Rattle.loops.proofs.Total.{total_same}
 use Rattle.rules.specs.Ancestry.{is_member, with_member, no_members}
-use Rattle.bits.specs.Bits.{bit_in, bit_at, with_bit}
+use Rattle.bits.specs.Bits.{bit_at, with_bit}
 use Rattle.bits.specs.Members.{bit_words, members_in, members_with, MemberIn, no_bits}
 use Rattle.bits.proofs.Bits.{with_bit_length, bit_at_with_bit_same, bit_at_with_bit_other, bit_at_zeros, bit_at_past}
 

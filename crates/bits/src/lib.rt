@@ -53,15 +53,14 @@ pub fn word_end(j: usize, n: usize) -> usize
     requires { j < 64 * bit_words }
     ensures { result ≡ min n (64 * (j / 64) + 64) }
 {
-    let end = WORD_BITS * (j / WORD_BITS) + WORD_BITS;
-    if n < end { n } else { end }
+    (WORD_BITS * (j / WORD_BITS) + WORD_BITS).min(n)
 }
 
-// How many bits of a word are set.
+// How many bits of a word are set. Of its own for its bound, which a sum of them needs.
 fn ones(word: u64) -> usize
     ensures { (result ≡ ones_in word) × (result ≤ 64) }
 {
-    u64::count_ones(word) as usize
+    word.count_ones() as usize
 }
 
 // How many bits of eight words are set: their ones, summed.
@@ -69,9 +68,5 @@ pub fn count_set(bits: &[u64]) -> usize
     requires { length bits.now ≡ bit_words }
     ensures { result ≡ count (bit_at bits.now) (64 * bit_words) }
 {
-    let mut found = 0;
-    for q in 0..BIT_WORDS {
-        found += ones(bits[q]);
-    }
-    found
+    bits.iter().map(|word| ones(*word)).sum()
 }

@@ -1,4 +1,3 @@
 -- Laws that the proofs of the functions cite. They assume nothing.
 pub mod Rows
-pub mod Booked
 pub mod Held

@@ -2,8 +2,7 @@
 #![tactic(auto)]
 
 ghost use Rattle.std.specs.Prelude.{◌≡◌, ◌<◌, length};
-ghost use Rattle.std.proofs.lemmas.List.Edits.{sets};
-ghost use Rattle.rules.specs.Layout.{size, most_bookings, slots, record_words, none, bookings, record_at, held_in};
+ghost use Rattle.rules.specs.Layout.{size, most_bookings, slots, none, bookings, held_in};
 ghost use Rattle.rules.specs.Sound.{Ledger};
 ghost use Rattle.rules.specs.Book.{new_record, entered, booked_with};
 
@@ -37,16 +36,6 @@ fn new_record(
     ]
 }
 
-// All the words of record i.
-fn put_record(w: &mut [u16], i: usize, row: &[u16])
-    requires { (length w.old ≡ size) × (i < most_bookings) × (length row.now ≡ record_words) }
-    ensures { w.new ≡ sets w.old (record_at i 0) row.now }
-{
-    for f in 0..layout::RECORD_WORDS {
-        words::set_field(w, i, f, row[f]);
-    }
-}
-
 // The first booking of a slot is preferred and last there; a later one is only counted.
 fn enter_slot(w: &mut [u16], s: usize, i: u16)
     requires { (length w.old ≡ size) × (s < slots) × (held_in w.old s < none) }
@@ -69,7 +58,7 @@ pub fn write_booking(w: &mut [u16], name: u64, slot: u16, parents: &[u16; layout
 {
     let n = words::header(w, layout::BOOKINGS);
     let row = new_record(name, slot, parents);
-    put_record(w, words::wide(n), &row);
+    words::set_fields(w, words::wide(n), 0, &row);
     enter_slot(w, words::wide(slot), n);
     words::set_header(w, layout::BOOKINGS, n + 1);
 }

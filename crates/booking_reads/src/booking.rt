@@ -14,7 +14,6 @@ ghost use Rattle.rules.specs.Book.{look_up};
 ghost use Rattle.rules.specs.Readings.{accepted_of};
 
 use rules::layout;
-use terms::answer::Found;
 
 // How many bookings the ledger has.
 pub fn how_many(w: &[u16]) -> usize
@@ -25,17 +24,11 @@ pub fn how_many(w: &[u16]) -> usize
 }
 
 // The number of the booking with the name.
-pub fn find(w: &[u16], name: u64) -> Found
+pub fn find(w: &[u16], name: u64) -> Option<usize>
     requires { (length w.now ≡ size) × (bookings w.now ≤ most_bookings) }
     ensures { result ≡ look_up w.now name }
 {
-    let n = how_many(w);
-    for i in 0..n {
-        if words::name(w, i) == name {
-            return Found::At(i);
-        }
-    }
-    Found::Absent
+    (0..how_many(w)).find(|i| words::name(w, *i) == name)
 }
 
 // The slot of booking i.

@@ -1,5 +1,5 @@
 // By how much a booking's confidence leads those of its slot's other bookings.
-ghost use Rattle.std.specs.Prelude.{◌≡◌, ◌<◌, ◌≤◌, max, length};
+ghost use Rattle.std.specs.Prelude.{◌≡◌, ◌<◌, ◌≤◌, length};
 ghost use Rattle.rules.specs.Layout.{size, most_bookings, bookings};
 ghost use Rattle.rules.specs.Readings.{is_rival, rival_confidence, rivals_most, lead_of};
 
@@ -25,23 +25,14 @@ fn rival_confidence(w: &[u16], i: usize, j: usize) -> u16
     }
 }
 
-fn greater(a: u16, b: u16) -> u16
-    ensures { result ≡ max a b }
-{
-    if a < b { b } else { a }
-}
-
 // The greatest confidence among the slot's other bookings, or 0 if there are none.
 fn rivals_most(w: &[u16], i: usize) -> u16
     requires { (length w.now ≡ size) × (bookings w.now ≤ most_bookings) × (i < most_bookings) }
     ensures { result ≡ rivals_most w.now i }
 {
-    let n = booking::how_many(w);
-    let mut most = 0;
-    for j in 0..n {
-        most = greater(most, rival_confidence(w, i, j));
-    }
-    most
+    (0..booking::how_many(w))
+        .map(|j| rival_confidence(w, i, j))
+        .fold(0, u16::max)
 }
 
 // The lead of booking i, below 0 where a rival is ahead.

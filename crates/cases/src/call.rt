@@ -1,4 +1,4 @@
-// A call in the words of the text program, made through the public calls.
+// A call in the words of the text program, made through the public calls. Lists are lent with a count, as `line_parse` fills them.
 use crate::Done;
 use line_parse::command::Command;
 use terms::answer::{Answer, Reading};
@@ -14,7 +14,7 @@ fn read(w: &[u16], reading: Reading, name: u64) -> Answer {
 }
 
 // The parents are the first of the list.
-fn book_on(w: &mut [u16], name: u64, slot: u16, parents: &[u64], count: usize) -> Done {
+fn book(w: &mut [u16], name: u64, slot: u16, parents: &[u64], count: usize) -> Done {
     if count <= parents.len() {
         Done::Gave(ledger::book(w, name, slot, &parents[..count]))
     } else {
@@ -22,12 +22,8 @@ fn book_on(w: &mut [u16], name: u64, slot: u16, parents: &[u64], count: usize) -
     }
 }
 
-fn book(w: &mut [u16], name: u64, slot: u16, parents: &[u64; 16], count: usize) -> Done {
-    book_on(w, name, slot, parents, count)
-}
-
 // The votes likewise.
-fn poll_by(w: &mut [u16], name: u64, votes: &[u8], count: usize) -> Done {
+fn poll(w: &mut [u16], name: u64, votes: &[u8], count: usize) -> Done {
     if count <= votes.len() {
         Done::Gave(ledger::poll(w, name, &votes[..count]))
     } else {
@@ -35,19 +31,14 @@ fn poll_by(w: &mut [u16], name: u64, votes: &[u8], count: usize) -> Done {
     }
 }
 
-fn poll(w: &mut [u16], name: u64, votes: &[u8; 64], count: usize) -> Done {
-    poll_by(w, name, votes, count)
-}
-
 pub(crate) fn call(line: &[u8], w: &mut [u16]) -> Done {
     let mut parents = [0u64; 16];
     let mut votes = [0u8; 64];
     match line_parse::parse(line, &mut parents, &mut votes) {
-        Command::Open(s) => Done::Gave(ledger::open(w, s)),
-        Command::Book { name, slot, count } => book(w, name, slot, &parents, count),
-        Command::Poll { name, count } => poll(w, name, &votes, count),
-        Command::Read { reading, name } => Done::Gave(read(w, reading, name)),
-        Command::List => Done::Nothing,
-        Command::Bad => Done::Nothing,
+        Some(Command::Open(s)) => Done::Gave(ledger::open(w, s)),
+        Some(Command::Book { name, slot, count }) => book(w, name, slot, &parents, count),
+        Some(Command::Poll { name, count }) => poll(w, name, &votes, count),
+        Some(Command::Read { reading, name }) => Done::Gave(read(w, reading, name)),
+        Some(Command::List) | None => Done::Nothing,
     }
 }

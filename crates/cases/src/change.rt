@@ -5,7 +5,7 @@ use crate::Done;
 use rules::layout;
 
 // No row, no field and no word is above it.
-const MOST: u64 = 65535;
+const MOST: u64 = u16::MAX as u64;
 
 // The numbers after the first word of a line, each within the limit, and zeros.
 pub(crate) fn numbers(line: &[u8], most: u64) -> [u64; 3]
@@ -14,7 +14,7 @@ pub(crate) fn numbers(line: &[u8], most: u64) -> [u64; 3]
     let mut ns = [0u64; 3];
     let end = line_words::word_end(line);
     if end <= line.len() {
-        line_scan::many::read_numbers(line, end, most, &mut ns);
+        let _ = line_scan::many::read_numbers(line, end, most, &mut ns);
     }
     ns
 }
@@ -22,11 +22,11 @@ pub(crate) fn numbers(line: &[u8], most: u64) -> [u64; 3]
 pub(crate) fn small(n: u64) -> usize
     ensures { result < 65536 }
 {
-    if n <= MOST { n as usize } else { 0 }
+    usize::from(short(n))
 }
 
 pub(crate) fn short(n: u64) -> u16 {
-    if n <= MOST { n as u16 } else { 0 }
+    u16::try_from(n).unwrap_or(0)
 }
 
 // Where the word of `header f v`, `record i f v` or `entry s f v` stands.
@@ -50,12 +50,12 @@ fn value(first: u8, ns: [u64; 3]) -> u16 {
 }
 
 fn get(w: &[u16], at: usize) -> u16 {
-    if at < w.len() { w[at] } else { 0 }
+    w.get(at).copied().unwrap_or(0)
 }
 
 pub(crate) fn set(w: &mut [u16], at: usize, v: u16) {
-    if at < w.len() {
-        w[at] = v;
+    if let Some(word) = w.get_mut(at) {
+        *word = v;
     }
 }
 

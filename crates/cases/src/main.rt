@@ -25,7 +25,8 @@ mod show;
 
 ghost use Rattle.std.specs.Prelude.{◌≤◌, length};
 
-use line_scan::step::Step;
+use line_scan::step::next_number;
+use line_words::{find_byte, word_end};
 use rules::layout;
 use std::io::{Read, Stdin, Stdout};
 use terms::answer::Answer;
@@ -44,29 +45,16 @@ pub enum Done {
     Nothing,
 }
 
-// Where a byte stands first from a place on, or the end.
-fn find(text: &[u8], from: usize, byte: u8) -> usize
-    requires { from ≤ length text.now }
-    ensures behind { from ≤ result }
-    ensures within { result ≤ length text.now }
-{
-    for j in from..text.len() {
-        if text[j] == byte {
-            return j;
-        }
-    }
-    text.len()
-}
-
 // A line up to the space before its bar.
 fn command_end(line: &[u8]) -> usize
     ensures { result ≤ length line.now }
 {
-    let bar = find(line, 0, b'|');
-    if bar < 1 {
-        return 0;
+    let bar = find_byte(line, b'|');
+    if bar < line.len() {
+        bar.saturating_sub(1)
+    } else {
+        bar
     }
-    if bar < line.len() { bar - 1 } else { bar }
 }
 
 // What a line says, on the words lent.
@@ -100,35 +88,25 @@ fn lent_index(line: &[u8], w: &[u16], lent: usize, cells: &mut Words) -> Done {
     }
 }
 
-fn same(a: &Words, b: &Words) -> bool {
-    for j in 0..LONG {
-        if a[j] != b[j] {
-            return false;
-        }
-    }
-    true
-}
-
 fn tell(to: Stdout, line: &[u8], first: u8, w: &mut Words, lent: usize) {
     let before = *w;
     let done = lent_work(line, first, w, lent);
-    show::done(to, same(&before, w), done);
+    show::done(to, before == *w, done);
 }
 
 // The cells are the first of as many words as a ledger may be lent, so that one written past them is seen.
 fn tell_index(to: Stdout, line: &[u8], w: &Words, lent: usize, cells: &mut Words) {
     let before = *cells;
     let done = lent_index(line, w, lent, cells);
-    show::done(to, same(&before, cells), done);
+    show::done(to, before == *cells, done);
 }
 
 // `words n`.
 fn lend(line: &[u8]) -> usize {
-    let end = line_words::word_end(line);
-    let Step::Next(n, _) = line_scan::step::next_number(line, end, LONG as u64) else {
-        return 0;
-    };
-    n as usize
+    match next_number(line, word_end(line), LONG as u64) {
+        Some((n, _)) => n as usize,
+        None => 0,
+    }
 }
 
 // Obeys a line, and answers how many words are lent from here on.
@@ -141,11 +119,10 @@ fn obey(
     lent: usize,
 ) -> usize {
     show::text(to, line);
-    if line.len() < 1 {
+    let Some(&first) = line.first() else {
         show::text(to, b"\n");
         return lent;
-    }
-    let first = line[0];
+    };
     match first {
         b'w' => {
             show::text(to, b"\n");
@@ -172,7 +149,7 @@ fn run(to: Stdout, script: &[u8]) {
     let mut lent = layout::SIZE;
     let mut at = 0;
     while at < script.len() {
-        let end = find(script, at, b'\n');
+        let end = at + find_byte(&script[at..], b'\n');
         lent = obey(to, &script[at..end], &mut w, &mut noted, &mut cells, lent);
         at = end + 1;
     }
@@ -184,11 +161,9 @@ fn read_script(mut from: Stdin, script: &mut [u8]) -> usize
 {
     let mut count = 0;
     while count < script.len() {
-        let answer = from.read(&mut script[count..]);
-        match answer {
-            Ok(0) => return count,
+        match from.read(&mut script[count..]) {
+            Ok(0) | Err(_) => break,
             Ok(more) => count += more,
-            Err(_) => return count,
         }
     }
     count

@@ -6,7 +6,7 @@ use terms::answer::Answer;
 fn one_if_taken(a: Answer) -> u64
     ensures { result ≤ 1 }
 {
-    if a.number() == 0 { 1 } else { 0 }
+    u64::from(a.is_ok())
 }
 
 // The bookings 1 to 510 for slot 9, each on the one before.

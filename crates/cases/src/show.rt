@@ -17,16 +17,16 @@ fn start(to: Stdout, bytes: &[u8], n: usize) {
 // A value, which may be below zero, and the end of the line.
 fn value(to: Stdout, v: i64) {
     let mut out = [0u8; 32];
-    let end = text_print::put_reading(&mut out, 0, Answer::Taken(v));
+    let end = text_print::put_reading(&mut out, 0, Ok(v));
     start(to, &out, end);
 }
 
 // A text, the number and the value that a call gave back, and the end of the line.
 fn answer(to: Stdout, before: &[u8], a: Answer) {
     text(to, before);
-    let _ = to.print(a.number());
+    let _ = to.print(terms::answer::number(a));
     text(to, b" ");
-    value(to, a.value());
+    value(to, terms::answer::value(a));
 }
 
 fn count(to: Stdout, n: u64) {

@@ -1,4 +1,5 @@
 -- Number and value say all that an answer does: each refusal is found again by them. Assumes nothing.
+use Rattle.std.specs.Prelude.{Err, Ok}
 use mathlib.Core.Path.{◌≡◌, refl, sym, ap, ap₂, ◌∙◌}
 use mathlib.Core.List.{List, [], ◌∷◌, ◌++◌}
 use Prim.Native.Nat.{ℕ}
@@ -27,7 +28,6 @@ use Rattle.terms.specs.declared.answer.Refusal.TheVariants.{
   OtherMarks,
   IndexFull,
 }
-use Rattle.terms.specs.declared.answer.Answer.TheVariants.{Taken, Refused}
 use Rattle.terms.specs.Answers.{number, value}
 use Rattle.rule_laws.proofs.Calls.{number_refused}
 use Rattle.code_promises.specs.OfCode.{AnswerTold}
@@ -61,7 +61,7 @@ refusals row =
 abbrev refusal_at : ℕ → ℤ → Refusal
 refusal_at n v = get_or (refusals (nat_abs v)) n WrongLength
 
-found_again : (r : Refusal) → refusal_at (number (Refused r)) (value (Refused r)) ≡ r
+found_again : (r : Refusal) → refusal_at (number (Err r)) (value (Err r)) ≡ r
 found_again WrongLength = refl
 found_again DamagedHeader = refl
 found_again BadSetting = refl
@@ -85,7 +85,7 @@ found_again IndexFull = refl
 
 pub answer_told : AnswerTold
 unfolding AnswerTold
-answer_told (Taken v) (Taken x) n e = ap Taken e
-answer_told (Taken v) (Refused q) n e = absurd (number_refused q (sym n))
-answer_told (Refused r) (Taken x) n e = absurd (number_refused r n)
-answer_told (Refused r) (Refused q) n e = ap Refused (sym (found_again r) ∙ ap₂ refusal_at n e ∙ found_again q)
+answer_told (Ok v) (Ok x) n e = ap Ok e
+answer_told (Ok v) (Err q) n e = absurd (number_refused q (sym n))
+answer_told (Err r) (Ok x) n e = absurd (number_refused r n)
+answer_told (Err r) (Err q) n e = ap Err (sym (found_again r) ∙ ap₂ refusal_at n e ∙ found_again q)

@@ -9,10 +9,9 @@ use denote.Triple.Clauses.{at_exit}
 use borrow.Fn.Kinds.{In, Out}
 use Rattle.terms.specs.declared.setting.Setting.{Setting}
 use Rattle.terms.specs.declared.answer.Reading.TheVariants.{Query, Accepted, Lead, Confidence, Size}
-use Rattle.terms.specs.declared.answer.Answer.{Answer}
 use Rattle.terms.specs.declared.form.Form.{Form}
 use Rattle.terms.specs.declared.form.Form.TheVariants.{First, Second}
-use Rattle.terms.specs.Answers.{Outcome, Handover, handover, number, value}
+use Rattle.terms.specs.Answers.{Outcome, Handover, handover, number, value, Answer}
 use Rattle.rules.specs.Calls.{open_call, book_call, poll_call, query_call, accepted_call, lead_call, confidence_call, size_call}
 use Rattle.day_file.specs.Calls.{write_file_call, read_file_call}
 use Rattle.name_index.specs.Calls.{index_build_call, index_enter_call, index_find_call}

@@ -5,10 +5,9 @@ use mathlib.Core.List.{List, []}
 use lib.IntN.{ℤ}
 use borrow.Fn.Kinds.{In, Out}
 use Rattle.terms.specs.declared.answer.Reading.TheVariants.{Query, Accepted, Lead, Confidence, Size}
-use Rattle.terms.specs.declared.answer.Answer.{Answer}
 use Rattle.terms.specs.declared.form.Form.{Form}
 use Rattle.terms.specs.declared.form.Form.TheVariants.{First, Second}
-use Rattle.terms.specs.Answers.{number, value}
+use Rattle.terms.specs.Answers.{number, value, Answer}
 use Rattle.promises.specs.Run.{Call, Open, Book, Poll, Ask, WriteFile, ReadFile, IndexBuild, IndexEnter, IndexFind}
 use Rattle.terms.specs.Setting.{setting_of}
 use Rattle.code_promises.specs.Contract.{contract_of, left}

@@ -3,8 +3,7 @@ use mathlib.Core.Path.{◌≡◌, refl, ap, subst}
 use mathlib.Core.List.{List}
 use Prim.Native.Nat.{ℕ}
 use lib.IntN.{ℤ}
-use Rattle.terms.specs.declared.answer.Answer.{Answer}
-use Rattle.terms.specs.Answers.{Outcome, outcome, Handover, number, value}
+use Rattle.terms.specs.Answers.{Outcome, outcome, Handover, number, value, Answer}
 use Rattle.promises.specs.Run.{outcome_of, lent_after}
 use Rattle.station.specs.Returned.{Handed, HandedOver}
 use Rattle.station.proofs.Telling.{left_of, handed_of}

@@ -1,11 +1,11 @@
 -- What holds of the law's outcomes holds of every call that a contract allows, since it gives that outcome. Assumes nothing.
+use Rattle.std.specs.Prelude.{Ok}
 use mathlib.Core.Path.{◌≡◌, refl, sym, ap, ap₂, subst, ◌∙◌}
 use mathlib.Core.Bool.{Bool, true, false, ◌&&◌}
 use mathlib.Core.List.{List, [], ◌∷◌}
 use mathlib.Core.Logic.{◌≢◌}
 use Prim.Native.Nat.{ℕ}
 use lib.IntN.{pos}
-use Rattle.terms.specs.declared.answer.Answer.TheVariants.{Taken}
 use Rattle.terms.specs.Answers.{Outcome, number, value, is_taken, done}
 use Rattle.rules.specs.Layout.{name_of}
 use Rattle.rules.specs.Sound.{Ledger}
@@ -207,12 +207,12 @@ code_never_misleads e index name m asks taken =
 -- ---- demands 2 and 3
 
 -- an answer of 1 is the law's answer
-answered_one : (w : List ℕ) (i : ℕ) → Accepts function w i → accepted_call w (name_of w i) ≡ Taken (pos 1)
+answered_one : (w : List ℕ) (i : ℕ) → Accepts function w i → accepted_call w (name_of w i) ≡ Ok (pos 1)
 unfolding outcome_of AnswerTold
 answered_one w i a =
     let law = ap (λ (o : Outcome). o.answer) (due_is a.done a.asks a.words) in
     let given = (gave a.done a.made).told in
-    answer_told (accepted_call w (name_of w i)) (Taken (pos 1))
+    answer_told (accepted_call w (name_of w i)) (Ok (pos 1))
     (ap number (sym law) ∙ sym given.numbered ∙ a.taken)
     (ap value (sym law) ∙ sym given.valued ∙ a.one)
 
@@ -240,7 +240,7 @@ code_lasts d c a index other m asks taken n same kept refused o builds after ane
     ∙ built_lasts c.call before new ledger (bookings_kept c.call before new kept)
     ∙ ap built same ∙ sym (built_by d index m asks taken)
 
-followed_one : {w u : List ℕ} (name : ℕ) → accepted_call w name ≡ Taken (pos 1) → Followed function w u → accepted_call u name ≡ Taken (pos 1)
+followed_one : {w u : List ℕ} (name : ℕ) → accepted_call w name ≡ Ok (pos 1) → Followed function w u → accepted_call u name ≡ Ok (pos 1)
 unfolding AcceptedCallStays NoneRenews run
 followed_one name e nothing = e
 followed_one name e (another d m refused before) =

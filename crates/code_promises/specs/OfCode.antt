@@ -2,9 +2,8 @@
 use Rattle.std.specs.Prelude.{◌≡◌, true, false, List, ◌≢◌, ℕ, ◌<◌, ◌≤◌, ℤ, pos}
 use Rattle.loops.specs.Total.{total}
 use Rattle.terms.specs.declared.answer.Reading.TheVariants.{Accepted}
-use Rattle.terms.specs.declared.answer.Answer.{Answer}
 use Rattle.terms.specs.declared.form.Form.{Form}
-use Rattle.terms.specs.Answers.{number, value}
+use Rattle.terms.specs.Answers.{number, value, Answer}
 use Rattle.rules.specs.Layout.{bookings, polls, slot_of, name_of, confidence_of, preferred_in}
 use Rattle.rules.specs.Readings.{accepted_of}
 use Rattle.rules.specs.Sound.{Ledger}

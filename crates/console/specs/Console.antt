@@ -1,30 +1,19 @@
 -- What the system told, and what the whole input leaves. No contract can say which bytes a call of the system reads or writes.
-use Rattle.std.specs.Prelude.{ℕ, zero, suc, ◌≤◌, min, ◌≡◌, cond, List, length, Result, Ok, Err, ltb}
+use Rattle.std.specs.Prelude.{ℕ, ◌≤◌, min, ◌≡◌, cond, List, length, Result, Ok, Err, ltb}
 use Rattle.text_program.specs.Program.{input_most, zeros, lines}
 use Rattle.text_program.specs.Piece.{words_after}
-use Rattle.console.specs.declared.Got.{Got}
-use Rattle.console.specs.declared.Got.TheVariants.{More, Ended, Failed}
-use Rattle.console.specs.declared.Input.{Input}
-use Rattle.console.specs.declared.Input.TheVariants.{Whole, Broken}
 
 -- ---- reading
 
--- an error is a fault and no end of the input; never more bytes than there was room for
-abbrev pub got_of : {E : Type 0} → Result ℕ E → ℕ → Got
-got_of (Ok zero) room = Ended
-got_of (Ok (suc n)) room = More (min (suc n) room)
-got_of (Err e) room = Failed
-
--- some bytes, and no more than there was room for
-abbrev pub Fits : Got → ℕ → Type 0
-Fits (More n) room = (1 ≤ n) × (n ≤ room)
-Fits Ended room = Unit
-Fits Failed room = Unit
+-- an error is a fault and no end of the input; never more bytes than there was room for, and none at the end
+abbrev pub got_of : {E : Type 0} → Result ℕ E → ℕ → Result ℕ E
+got_of (Ok n) room = Ok (min n room)
+got_of (Err e) room = Err e
 
 -- the bytes read are within the buffer
-abbrev pub Within : Input → ℕ → Type 0
-Within (Whole count) room = count ≤ room
-Within Broken room = Unit
+abbrev pub Within : {E : Type 0} → Result ℕ E → ℕ → Type 0
+Within (Ok count) room = count ≤ room
+Within (Err e) room = Unit
 
 -- ---- serving
 

@@ -12,11 +12,10 @@ use Rattle.loops.specs.Search.{first_from}
 use Rattle.loops.specs.Total.{bit, total, greatest}
 use Rattle.loops.specs.Fill.{from}
 use Rattle.loops.specs.Rows.{walk_from}
-use Rattle.terms.specs.declared.answer.Tested.{Tested}
 use Rattle.terms.specs.declared.form.Form.{Form}
 use Rattle.terms.specs.declared.form.Form.TheVariants.{First, Second}
 use Rattle.terms.specs.Setting.{setting_of}
-use Rattle.terms.specs.Answers.{Outcome, Handover}
+use Rattle.terms.specs.Answers.{Outcome, Handover, Tested}
 use Rattle.terms.specs.Votes.{vote_of}
 use Rattle.terms.specs.Editions.{restart, enough, failure_clears}
 use Rattle.rules.specs.Layout.{size, polls_field, confidence_field, mark_field, counter_field, mark_of, counter_in, with_header, with_field, with_entry}

@@ -38,9 +38,6 @@ module _ (w : List ℕ) where
       pub marked_more : marks_so_far (i + 1) ≡ marks_so_far i ++ (i ∷ [])
       marked_more = chosen_taken (is_marked w) i (eq-eqb (mark_of w i) 1 (sym read ∙ one))
 
-      pub one_longer : length (marks_so_far (i + 1)) ≡ length (marks_so_far i) + 1
-      one_longer = ap length marked_more ∙ length-append (marks_so_far i) (i ∷ [])
-
       -- it is one of all, and stands behind those before it
       pub mark_within : (n : ℕ) → i < n → length (marks_so_far i) + 1 ≤ length (marks_so_far n)
       mark_within n u =

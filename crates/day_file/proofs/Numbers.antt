@@ -1,9 +1,17 @@
 -- Laws of numbers and names as bytes: two bytes of a word, and a name as its four words. Assumes nothing.
-use mathlib.Core.Path.{◌≡◌, refl, ap₂}
+use mathlib.Core.Path.{◌≡◌, refl, ap, ap₂}
 use mathlib.Core.List.{[], ◌∷◌, ◌++◌}
-use Prim.Native.Nat.{ℕ, ◌/◌, ◌%◌, ◌<◌}
+use Prim.Native.Nat.{ℕ, zero, suc, ◌/◌, ◌%◌, ◌^◌, ◌<◌}
 use native.Mathlib.Omega.{arith}
+use Rattle.std.specs.Int.{bytes_high_first}
 use Rattle.day_file.specs.Bytes.{high_first, number_bytes, name_bytes}
+
+-- std's bytes of a number are ours
+pub high_first_bytes : (b n : ℕ) → bytes_high_first b n ≡ high_first b n
+unfolding high_first
+high_first_bytes zero n = refl
+high_first_bytes (suc zero) n = let e : n % 256 ≡ n / 1 % 256 = omega arith in ap (λ x. x ∷ []) e
+high_first_bytes (suc (suc b)) n = ap (λ l. n / 256 ^ suc b % 256 ∷ l) (high_first_bytes (suc b) n)
 
 -- the high byte of a word, and the low one
 pub word_bytes : (v : ℕ) → v < 65536 → v / 256 ∷ v % 256 ∷ [] ≡ number_bytes v

@@ -1,14 +1,11 @@
 -- CR 2, CR 4 and CR 9: the calls that write and read the day file and move it to the other form. Each takes the form of the file that it writes or reads; a move that of
 -- the file that it is given.
 -- Writing changes no word, and a file is lent for reading only.
-use Rattle.std.specs.Prelude.{ℕ, Bool, false, cond, not, List, ◌++◌, pos, length, drop, eqb, ltb}
-use Rattle.terms.specs.declared.answer.Answer.{Answer}
-use Rattle.terms.specs.declared.answer.Answer.TheVariants.{Taken, Refused}
+use Rattle.std.specs.Prelude.{ℕ, Bool, false, cond, not, List, ◌++◌, pos, length, drop, eqb, ltb, Err, Ok}
 use Rattle.terms.specs.declared.answer.Refusal.TheVariants.{WrongLength, ShortBuffer, BadFile, OtherMarks}
-use Rattle.terms.specs.declared.answer.Tested.{Tested}
 use Rattle.terms.specs.declared.form.Form.{Form}
 use Rattle.terms.specs.declared.form.Form.TheVariants.{First, Second}
-use Rattle.terms.specs.Answers.{Outcome, leaves, Handover, hands_over, done}
+use Rattle.terms.specs.Answers.{Outcome, leaves, Handover, hands_over, done, Answer, Tested}
 use Rattle.rules.specs.Layout.{size}
 use Rattle.rules.specs.Calls.{test_of, tested}
 use Rattle.day_file.specs.Day.{Day, marks_of}
@@ -26,8 +23,8 @@ laid bytes buffer = bytes ++ drop (length bytes) buffer
 -- 16: the buffer is shorter than the bytes. The value is how many there are
 abbrev pub laid_answer : (bytes buffer : List ℕ) → Answer
 laid_answer bytes buffer =
-    cond (ltb (length buffer) (length bytes)) (Refused ShortBuffer)
-    (Taken (pos (length bytes)))
+    cond (ltb (length buffer) (length bytes)) (Err ShortBuffer)
+    (Ok (pos (length bytes)))
 
 -- The test of the words is `test_of`; that it is a parameter lets the cases be computed with a faster one of the same results.
 module _ (test : List ℕ → Tested) where
@@ -61,8 +58,8 @@ words_in = words_by replay
 -- 1, and then 17: the file isn't good. Of the words only their number is looked at
 abbrev pub read_file_answer : (good : List ℕ → Bool) → List ℕ → List ℕ → Answer
 read_file_answer good w file =
-    cond (not (eqb (length w) size)) (Refused WrongLength)
-    (cond (not (good file)) (Refused BadFile)
+    cond (not (eqb (length w) size)) (Err WrongLength)
+    (cond (not (good file)) (Err BadFile)
     done)
 
 abbrev pub read_file_by : (good : Form → List ℕ → Bool) (made : Day → Outcome) → Form → List ℕ → List ℕ → Outcome
@@ -92,8 +89,8 @@ has_other_marks = has_other_marks_by replay
 -- 17, then 19, then 16. The value is the length of what is written
 abbrev pub move_file_answer : (good : Form → List ℕ → Bool) (made : Day → Outcome) → Form → List ℕ → List ℕ → Answer
 move_file_answer good made form file out =
-    cond (not (good form file)) (Refused BadFile)
-    (cond (has_other_marks_by made form file) (Refused OtherMarks)
+    cond (not (good form file)) (Err BadFile)
+    (cond (has_other_marks_by made form file) (Err OtherMarks)
     (laid_answer (moved_by made form file) out))
 
 -- two lent buffers and no words: what a move leaves is the output

@@ -1,13 +1,10 @@
 -- CR 4 and CR 9: a day made again by the calls of the law, an opening, then its bookings, then its polls; and when a file is good, in either form.
-use Rattle.std.specs.Prelude.{ℕ, Bool, ◌&&◌, cond, List, [], ◌∷◌, length, get_or, replicate, eqb, ltb}
+use Rattle.std.specs.Prelude.{ℕ, Bool, ◌&&◌, cond, List, [], ◌∷◌, length, get_or, replicate, eqb, ltb, Err, Ok}
 use Rattle.loops.specs.Search.{all}
 use Rattle.loops.specs.Total.{bit}
 use Rattle.loops.specs.Fill.{from}
-use Rattle.terms.specs.declared.answer.Tested.{Tested}
-use Rattle.terms.specs.declared.answer.Answer.{Answer}
-use Rattle.terms.specs.declared.answer.Answer.TheVariants.{Taken, Refused}
 use Rattle.terms.specs.declared.answer.Refusal.TheVariants.{UnknownParent, UnknownName}
-use Rattle.terms.specs.Answers.{Outcome, outcome, is_taken}
+use Rattle.terms.specs.Answers.{Outcome, outcome, is_taken, Answer, Tested}
 use Rattle.rules.specs.Layout.{size, bookings, setting_in, name_of}
 use Rattle.rules.specs.Calls.{test_of, open_call, book_by, poll_by}
 use Rattle.day_file.specs.Day.{DayBooking, DayPoll, Day}
@@ -33,8 +30,8 @@ votes_for w success = replicate (setting_in w).k (bit success)
 
 -- a call after what the calls before it gave
 abbrev pub following : Answer → List ℕ → (List ℕ → Outcome) → Outcome
-following (Taken v) w call = call w
-following (Refused r) w call = outcome (Refused r) w
+following (Ok v) w call = call w
+following (Err r) w call = outcome (Err r) w
 
 -- one call for each
 unfoldable pub in_order : {A : Type 0} → (A → List ℕ → Outcome) → List A → Outcome → Outcome
@@ -47,13 +44,13 @@ module _ (test : List ℕ → Tested) where
   abbrev pub rebook_by : DayBooking → List ℕ → Outcome
   rebook_by b w =
       cond (are_booked w b.parents) (book_by test w b.name b.slot (names_of w b.parents))
-      (outcome (Refused UnknownParent) w)
+      (outcome (Err UnknownParent) w)
 
   -- a poll, with the votes that its outcome takes
   abbrev pub repoll_by : DayPoll → List ℕ → Outcome
   repoll_by q w =
       cond (ltb q.booking (bookings w)) (poll_by test w (name_of w q.booking) (votes_for w q.success))
-      (outcome (Refused UnknownName) w)
+      (outcome (Err UnknownName) w)
 
   -- the opening, all bookings, all polls, on words that were never used
   abbrev pub replay_by : Day → Outcome

@@ -1,22 +1,44 @@
 -- Bytes that were read are those of the number that they make: two of a number, eight of a name, and a row of numbers, one more at a time.
-use mathlib.Core.Path.{◌≡◌, refl, sym, ap, ◌∙◌}
+use mathlib.Core.Path.{◌≡◌, refl, sym, ap, ap₂, ◌∙◌}
 use mathlib.Core.List.{List, [], ◌∷◌, ◌++◌, append_assoc, append-nil}
-use Prim.Native.Nat.{ℕ, suc, ◌+◌, ◌*◌, ◌/◌, ◌%◌, ◌<◌, ◌≤◌}
+use Prim.Native.Nat.{ℕ, zero, suc, ◌+◌, ◌-◌, ◌*◌, ◌/◌, ◌%◌, ◌^◌, ◌<◌, ◌≤◌}
 use native.Mathlib.Nat.{add-zero}
 use native.Mathlib.Omega.{arith}
-use lib.ListN.{length, get_or, set, drop}
 use lib.Seq.{drop-cons}
+use lib.ListN.{length, get_or, set, take, drop, length-take, take-append-drop}
+use native.Mathlib.Decide.{dec_lt}
+use Rattle.std.proofs.lemmas.List.{drop-drop, take_rest, get_or-take, get_or-drop, get_or_past}
+use Rattle.std.specs.Int.{bytes_high_first}
 use Rattle.rules.specs.Layout.{most_parents, none}
-use Rattle.day_file.specs.Bytes.{number_bytes, name_bytes, joined}
+use Rattle.day_file.specs.Bytes.{high_first, number_bytes, joined}
 use Rattle.day_file.specs.Decode.{Read, read_number, read_many}
 use Rattle.day_file.specs.InTurn.{places}
 use Rattle.day_file.proofs.Joined.{joined_append}
 use Rattle.day_file.proofs.Codec.{number_undone}
+use Rattle.day_file.proofs.Numbers.{word_bytes, high_first_bytes}
 use Rattle.day_file.proofs.ReadMany.{length_read_many, read_many_more}
-use Rattle.day_file.proofs.Numbers.{word_bytes, name_bytes_lem}
 
 -- ---- a number
 
+-- the bytes at the front of what stands from an offset on
+module _ (file : List ℕ) (at b : ℕ) {bytes : List ℕ} (room : at + b ≤ length file) (front : bytes ≡ take b (take (length file - at) (drop at file))) where
+  here : bytes ≡ take b (drop at file)
+  here = front ∙ ap (take b) (take_rest file at)
+
+  -- each is a byte
+  pub bytes_small : ((i : ℕ) → get_or file i 0 < 256) → (i : ℕ) → get_or bytes i 0 < 256
+  bytes_small small i = go (dec_lt i b)
+    where
+      go : Dec (i < b) → get_or bytes i 0 < 256
+      go (yes u) = omega (arith, small (at + i), ap (λ l. get_or l i 0) here, get_or-take b (drop at file) i 0 u, get_or-drop at file i 0)
+      go (no u) = omega (arith, get_or_past bytes i 0 (omega (arith, ap length here, length-take b (drop at file))))
+
+  -- together they are those of the number
+  pub bytes_got : (n : ℕ) → bytes_high_first b n ≡ bytes → drop at file ≡ high_first b n ++ drop (at + b) file
+  bytes_got n told =
+      sym (take-append-drop b (drop at file)) ∙ ap₂ ◌++◌ (sym here ∙ sym told ∙ high_first_bytes b n) (drop-drop b at file)
+
+-- the two of a number, one by one
 pub number_got : (file : List ℕ) (at : ℕ) → at + 2 ≤ length file → get_or file at 0 < 256 → get_or file (at + 1) 0 < 256
     → drop at file ≡ number_bytes (get_or file at 0 * 256 + get_or file (at + 1) 0) ++ drop (at + 2) file
 number_got file at room high low =
@@ -30,26 +52,6 @@ number_got file at room high low =
     let first : drop at file ≡ h ∷ drop (at + 1) file = rw next at (drop-cons file at 0 (omega arith)) in
     let second : drop (at + 1) file ≡ l ∷ drop (at + 2) file = rw past at (drop-cons file (at + 1) 0 (omega arith)) in
     first ∙ ap (λ t. h ∷ t) second ∙ ap (λ p. p ++ drop (at + 2) file) pair
-
--- ---- a name
-
-pub name_got : (file : List ℕ) (at : ℕ) {a b c d : ℕ} → a < 65536 → b < 65536 → c < 65536 → d < 65536
-    → drop at file ≡ number_bytes a ++ drop (at + 2) file
-    → drop (at + 2) file ≡ number_bytes b ++ drop (at + 2 + 2) file
-    → drop (at + 4) file ≡ number_bytes c ++ drop (at + 4 + 2) file
-    → drop (at + 6) file ≡ number_bytes d ++ drop (at + 6 + 2) file
-    → drop at file ≡ name_bytes (((a * 65536 + b) * 65536 + c) * 65536 + d) ++ drop (at + 8) file
-name_got file at {a} {b} {c} {d} fa fb fc fd e f g h =
-    let n = ((a * 65536 + b) * 65536 + c) * 65536 + d in
-    let na : n / 281474976710656 ≡ a = omega arith in
-    let nb : n / 4294967296 % 65536 ≡ b = omega arith in
-    let nc : n / 65536 % 65536 ≡ c = omega arith in
-    let nd : n % 65536 ≡ d = omega arith in
-    let four : at + 2 + 2 ≡ at + 4 = omega arith in
-    let six : at + 4 + 2 ≡ at + 6 = omega arith in
-    let eight : at + 6 + 2 ≡ at + 8 = omega arith in
-    rw (name_bytes_lem n, na, nb, nc, nd) (simp append_assoc
-    (e ∙ ap (λ t. number_bytes a ++ t) (rw four at f ∙ ap (λ t. number_bytes b ++ t) (rw six at g ∙ ap (λ t. number_bytes c ++ t) (rw eight at h)))))
 
 -- ---- several numbers
 

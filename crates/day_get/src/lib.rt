@@ -14,22 +14,20 @@ pub fn number_at(file: &[u8], at: usize) -> u16
     requires { at + 2 ≤ length file.now }
     ensures { drop at file.now ≡ number_bytes result ++ drop (at + 2) file.now }
 {
-    (file[at] as u16) * 256 + (file[at + 1] as u16)
+    let bytes = file[at..].first_chunk().unwrap();
+    u16::from_be_bytes(*bytes)
 }
 
-// A name of eight bytes: four numbers, its highest part first.
+// A name of eight bytes.
 pub fn name_at(file: &[u8], at: usize) -> u64
     requires { at + 8 ≤ length file.now }
     ensures { drop at file.now ≡ name_bytes result ++ drop (at + 8) file.now }
 {
-    let a = number_at(file, at) as u64;
-    let b = number_at(file, at + 2) as u64;
-    let c = number_at(file, at + 4) as u64;
-    let d = number_at(file, at + 6) as u64;
-    ((a * 65536 + b) * 65536 + c) * 65536 + d
+    let bytes = file[at..].first_chunk().unwrap();
+    u64::from_be_bytes(*bytes)
 }
 
-// So many parents' numbers, in the parent places of a record; nothing past them.
+// So many parents' numbers, in the parent places of a record; nothing past them. The count is a place and, twice, an offset.
 pub fn parents_at(file: &[u8], at: usize, count: usize) -> [u16; layout::MOST_PARENTS]
     requires { (count ≤ most_parents) × (at + 2 * count ≤ length file.now) }
     ensures { (result ≡ places (read_many read_number count (drop at file.now)).value) × (drop at file.now ≡ joined number_bytes (read_many read_number count (drop at file.now)).value ++ drop (at + 2 * count) file.now) }

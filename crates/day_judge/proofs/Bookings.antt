@@ -8,6 +8,7 @@ use native.Mathlib.Numerals.{add-one}
 use native.Mathlib.Omega.{arith}
 use lib.Dec.{eqb}
 use lib.ListN.{length, drop}
+use Rattle.std.specs.Prelude.{None}
 use Rattle.loops.proofs.Bools.{and_left, and_right}
 use Rattle.loops.proofs.Search.{all→, any_same}
 use Rattle.day_file.specs.Day.{DayBooking, booking_in, name_in}
@@ -84,7 +85,7 @@ module _ (sections : List ℕ) (n j at : ℕ) (u : j < n) (walked : Walked secti
         true≢false (sym (and_left (not (is_named rows (j + 1) name)) (row_good j (booking_from sections at)) (sym next_rules ∙ all→ (booking_passes bookings) n good.rules j u)) ∙ ap not taken)
 
   -- missing bytes, or another rule that is broken
-  pub row_refused : (r : ℕ) → r ≡ 0 → RowJudged sections at j r → BookingsGood rows n → ⊥
-  row_refused r zeroed judged good =
+  pub row_refused : RowJudged sections at j None → BookingsGood rows n → ⊥
+  row_refused short good =
       let rules = and_right (not (is_named rows (j + 1) (name_read rows (j + 1)))) (row_good j (booking_from sections at)) (sym rules_are ∙ all→ (booking_passes bookings) n good.rules j u) in
-      omega (arith, judged.bad zeroed rules, row_fits sections at j walked.there n u good.laid)
+      omega (arith, short rules, row_fits sections at j walked.there n u good.laid)

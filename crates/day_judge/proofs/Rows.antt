@@ -8,6 +8,8 @@ use native.Mathlib.Numerals.{add-one}
 use native.Mathlib.Omega.{arith}
 use lib.ListN.{length, drop, length-append, length-drop}
 use lib.Seq.{drop-drop}
+use Rattle.std.specs.Prelude.{None}
+use Rattle.std.specs.Bool.{then_some}
 use Rattle.loops.proofs.Bools.{and_left, and_right, and_both}
 use Rattle.day_file.specs.Day.{DayBooking}
 use Rattle.day_file.specs.Bytes.{number_bytes, name_bytes, joined, counted, booking_bytes, poll_bytes}
@@ -17,8 +19,8 @@ use Rattle.day_file.proofs.Joined.{length_high_first, length_joined_even}
 use Rattle.day_file.proofs.Lengths.{length_booking_bytes, length_poll_bytes}
 use Rattle.day_file.proofs.Codec.{number_undone, name_undone}
 use Rattle.day_file.proofs.ReadMany.{length_read_many, read_many_more}
-use Rattle.day_judge.specs.Parts.{HoldsMany, behind, name_read, fields_good, parents_good, row_good}
-use Rattle.day_judge.specs.Judged.{booking_from, RowJudged}
+use Rattle.day_judge.specs.Parts.{HoldsMany, behind, name_read, fields_good, parents_good}
+use Rattle.day_judge.specs.Judged.{booking_from, RowEnds, RowJudged}
 use Rattle.day_judge.proofs.Walk.{Leaves, many_leave, holds_row}
 use Rattle.day_judge.proofs.Rules.{fields_parents, parents_placed}
 
@@ -53,12 +55,8 @@ poll_leaves l = drop-drop 2 2 l ∙ ap (λ k. drop k l) (sym (length_poll_bytes 
 
 -- ---- a booking at an offset, as it is judged
 
--- where its bytes are missing, or a rule is broken
-pub row_bad : (sections : List ℕ) (at j : ℕ) → (row_good j (booking_from sections at) ≡ true → length sections < at + length (booking_bytes (booking_from sections at))) → RowJudged sections at j 0
-row_bad sections at j h = record { good = λ n. absurd (n refl); bad = λ e. h }
-
-pub row_short : (sections : List ℕ) (at j : ℕ) → length sections < at + 12 → RowJudged sections at j 0
-row_short sections at j h = row_bad sections at j (λ g. omega (arith, length_booking_bytes (booking_from sections at)))
+pub row_short : (sections : List ℕ) (at j : ℕ) → length sections < at + 12 → RowJudged sections at j None
+row_short sections at j h g = omega (arith, length_booking_bytes (booking_from sections at))
 
 -- where its count was read
 module _ (sections : List ℕ) (at count : ℕ) (fc : count < 65536) (g : drop (at + 10) sections ≡ number_bytes count ++ drop (at + 10 + 2) sections) where
@@ -105,11 +103,11 @@ module _ (sections : List ℕ) (at j slot count : ℕ) (fs : slot < 65536) (fc :
   fields_same : fields_test ≡ fields_good j slot count
   fields_same = ap₂ (fields_good j) slot_is (many_are sections at count fc g)
 
-  pub row_fields : fields_good j slot count ≡ false → RowJudged sections at j 0
-  row_fields e = row_bad sections at j (λ h. absurd (true≢false (sym (and_left fields_test parents_test h) ∙ fields_same ∙ e)))
+  pub row_fields : fields_good j slot count ≡ false → RowJudged sections at j None
+  row_fields e h = absurd (true≢false (sym (and_left fields_test parents_test h) ∙ fields_same ∙ e))
 
-  pub row_room : length sections < at + 12 + 2 * count → RowJudged sections at j 0
-  row_room h = row_bad sections at j (λ q. omega (arith, booking_end sections at count fc g))
+  pub row_room : length sections < at + 12 + 2 * count → RowJudged sections at j None
+  row_room h q = omega (arith, booking_end sections at count fc g)
 
   -- and its parents
   module _ (parents : List ℕ) (same : parents ≡ places placed) (fields : fields_good j slot count ≡ true) where
@@ -120,20 +118,18 @@ module _ (sections : List ℕ) (at j slot count : ℕ) (fs : slot < 65536) (fc :
         ∙ sym (parents_placed j placed (omega (arith, many, fields_parents j slot count fields)))
         ∙ ap₂ (parents_good j) (sym same) many
 
-    pub row_parents : parents_good j parents count ≡ false → RowJudged sections at j 0
-    row_parents e = row_bad sections at j (λ h. absurd (true≢false (sym (and_right fields_test parents_test h) ∙ parents_same ∙ e)))
+    row_parents : parents_good j parents count ≡ false → RowJudged sections at j None
+    row_parents e h = absurd (true≢false (sym (and_right fields_test parents_test h) ∙ parents_same ∙ e))
 
-    pub row_ends : drop (at + 12) sections ≡ joined number_bytes placed ++ drop (at + 12 + 2 * count) sections → parents_good j parents count ≡ true → at + 12 + 2 * count ≤ length sections
-        → RowJudged sections at j (at + 12 + 2 * count)
-    row_ends laid good room = record {
-      good = λ n. record {
-        rules = and_both fields_test parents_test (fields_same ∙ fields) (parents_same ∙ good);
-        laid = f ∙ ap₂ (λ s t. number_bytes s ++ t) (sym slot_is) behind_slot;
-        past = omega arith;
-        within = room;
-      };
-      bad = λ e. absurd (omega arith);
-    }
+    row_ends : drop (at + 12) sections ≡ joined number_bytes placed ++ drop (at + 12 + 2 * count) sections → at + 12 + 2 * count ≤ length sections
+        → parents_good j parents count ≡ true → RowEnds sections at j (at + 12 + 2 * count)
+    row_ends laid room good =
+        record {
+          rules = and_both fields_test parents_test (fields_same ∙ fields) (parents_same ∙ good);
+          laid = f ∙ ap₂ (λ s t. number_bytes s ++ t) (sym slot_is) behind_slot;
+          past = omega arith;
+          within = room;
+        }
       where
         next : List ℕ
         next = drop (at + 12 + 2 * count) sections
@@ -145,6 +141,12 @@ module _ (sections : List ℕ) (at j slot count : ℕ) (fs : slot < 65536) (fc :
             ap (λ k. drop k sections) ten ∙ rw past at g
             ∙ ap₂ (λ c t. number_bytes c ++ t) (sym (many_are sections at count fc g)) (laid ∙ ap (λ l. joined number_bytes l ++ next) (sym (parents_are sections at count fc g)))
             ∙ sym (append_assoc (number_bytes (length (booking_from sections at).parents)) (joined number_bytes (booking_from sections at).parents) next)
+
+    -- as the parents are asked
+    pub row_asked : drop (at + 12) sections ≡ joined number_bytes placed ++ drop (at + 12 + 2 * count) sections → at + 12 + 2 * count ≤ length sections
+        → (t : Bool) → t ≡ parents_good j parents count → RowJudged sections at j (then_some t (at + 12 + 2 * count))
+    row_asked laid room true e = row_ends laid room (sym e)
+    row_asked laid room false e = row_parents (sym e)
 
 -- ---- a booking that was walked
 

@@ -9,6 +9,7 @@ use native.Mathlib.Omega.{arith}
 use lib.ListN.{length, get_or, drop}
 use lib.Dec.{eqb}
 use borrow.Author.Tests.{eq-eqb, ne_eqb}
+use Rattle.std.specs.Bool.{then_some}
 use Rattle.terms.specs.declared.setting.Setting.{Setting}
 use Rattle.terms.specs.Setting.{setting_of, setting_numbers, is_good}
 use Rattle.rule_laws.proofs.Good.{is_good→Good}
@@ -17,7 +18,7 @@ use Rattle.day_file.specs.Decode.{Read, read_number, read_counted, read_setting}
 use Rattle.day_file.proofs.Lengths.{length_setting_section, length_setting_numbers, edition_length_most}
 use Rattle.day_file.proofs.Codec.{SettingFits, number_undone, counted_undone, setting_undone}
 use Rattle.day_judge.specs.Parts.{setting_end, SettingGood}
-use Rattle.day_judge.specs.Judged.{SettingJudged}
+use Rattle.day_judge.specs.Judged.{SettingEnds, SettingJudged}
 use Rattle.day_judge.proofs.Rows.{number_read_lem}
 
 -- ---- of a good one
@@ -55,34 +56,43 @@ setting_count file good =
 
 -- ---- as it is judged
 
--- not good: 0
-setting_bad : (file : List ℕ) → (SettingGood file → ⊥) → SettingJudged file 0
-setting_bad file h = record { good = λ d. absurd (d refl); bad = λ e. h }
-
 -- where the count was read
 module _ (file : List ℕ) (n : ℕ) (small : n < 65536) (e : file ≡ number_bytes n ++ drop 2 file) where
   counted_so : SettingGood file → n ≡ length (setting_numbers (read_setting file).value)
   counted_so good = sym (ap (λ (m : Read ℕ). m.value) (number_read_lem n small e)) ∙ setting_count file good
 
--- where its bytes are those of a setting
-module _ (file : List ℕ) (s : Setting) (next : ℕ) (laid : file ≡ setting_section s ++ drop next file) (fits : SettingFits s) where
+  -- neither four nor five
+  pub other_count : n ≢ 4 → n ≢ 5 → SettingGood file → ⊥
+  other_count p q good =
+      let told = counted_so good in
+      four_or_five (read_setting file).value (λ e. p (told ∙ e)) (λ e. q (told ∙ e))
+
+-- bytes that start with those of a setting, whose section ends at the offset
+pub record Laid (file : List ℕ) (s : Setting) (next : ℕ) : Type 0 where
+  pub laid : file ≡ setting_section s ++ drop next file
+  pub fits : SettingFits s
+  pub long : length (setting_section s) ≡ next
+
+module _ (file : List ℕ) (s : Setting) (next : ℕ) (of : Laid file s next) where
   setting_is : (read_setting file).value ≡ s
-  setting_is = ap (λ l. (read_setting l).value) laid ∙ ap (λ (m : Read Setting). m.value) (setting_undone.undoes s fits (drop next file))
+  setting_is = ap (λ l. (read_setting l).value) of.laid ∙ ap (λ (m : Read Setting). m.value) (setting_undone.undoes s of.fits (drop next file))
 
-  rules_broken : is_good s ≡ false → SettingJudged file 0
-  rules_broken n = setting_bad file (λ good. true≢false (sym good.rules ∙ ap is_good setting_is ∙ n))
+  rules_broken : is_good s ≡ false → SettingGood file → ⊥
+  rules_broken n good = true≢false (sym good.rules ∙ ap is_good setting_is ∙ n)
 
-  rules_kept : length (setting_section s) ≡ next → is_good s ≡ true → SettingJudged file next
-  rules_kept long y =
-      let end : next ≡ setting_end file = sym long ∙ ap (λ t. length (setting_section t)) (sym setting_is) in
+  rules_kept : is_good s ≡ true → SettingEnds file next
+  rules_kept y =
+      let end : next ≡ setting_end file = sym of.long ∙ ap (λ t. length (setting_section t)) (sym setting_is) in
       record {
-        good = λ d. record {
-          good = record { laid = laid ∙ ap₂ (λ t m. setting_section t ++ drop m file) (sym setting_is) end; rules = ap is_good setting_is ∙ y };
-          end = end;
-          most = omega (arith, long, length_setting_section s, edition_length_most s.edition);
-        };
-        bad = λ z. absurd (omega (arith, long, length_setting_section s));
+        good = record { laid = of.laid ∙ ap₂ (λ t m. setting_section t ++ drop m file) (sym setting_is) end; rules = ap is_good setting_is ∙ y };
+        end = end;
+        most = omega (arith, of.long, length_setting_section s, edition_length_most s.edition);
       }
+
+  -- as its rules are asked
+  pub rules_asked : (t : Bool) → t ≡ is_good s → SettingJudged file (then_some t next)
+  rules_asked true e = rules_kept (sym e)
+  rules_asked false e = rules_broken (sym e)
 
 -- ---- as it was read
 
@@ -109,26 +119,14 @@ module _ (file : List ℕ) {n k a beta1 beta2 : ℕ} (four : FourRead file n k a
     abbrev first : Setting
     first = setting_of k a beta1 beta2 0
 
-    first_laid : file ≡ setting_section first ++ drop 10 file
+    pub first_laid : Laid file first 10
     unfolding joined high_first
-    first_laid = four.at_start ∙ ap₂ (λ m l. number_bytes m ++ l) counted-four four_laid
-
-    first_fits : SettingFits first
-    first_fits = record { k = four.small_k; a = four.small_a; beta1 = four.small_beta1; beta2 = four.small_beta2; edition = omega arith }
-
-    pub first_broken : is_good first ≡ false → SettingJudged file 0
-    first_broken = rules_broken file first 10 first_laid first_fits
-
-    pub first_kept : is_good first ≡ true → SettingJudged file 10
-    unfolding joined high_first
-    first_kept = rules_kept file first 10 first_laid first_fits refl
-
-  -- neither four nor five
-  pub other_count : n ≢ 4 → n ≢ 5 → SettingJudged file 0
-  other_count p q =
-      setting_bad file (λ good.
-      let told = counted_so file n four.small four.at_start good in
-      four_or_five (read_setting file).value (λ e. p (told ∙ e)) (λ e. q (told ∙ e)))
+    first_laid =
+        record {
+          laid = four.at_start ∙ ap₂ (λ m l. number_bytes m ++ l) counted-four four_laid;
+          fits = record { k = four.small_k; a = four.small_a; beta1 = four.small_beta1; beta2 = four.small_beta2; edition = omega arith };
+          long = refl;
+        }
 
   -- a count of five, and the edition behind the four
   module _ (counted-five : n ≡ 5) (edition : ℕ) (fe : edition < 65536) (e3 : drop 10 file ≡ number_bytes edition ++ drop 12 file) where
@@ -149,26 +147,19 @@ module _ (file : List ℕ) {n k a beta1 beta2 : ℕ} (four : FourRead file n k a
         (record { few = omega arith; each = (four.small_k, (four.small_a, (four.small_beta1, (four.small_beta2, (fe, tt))))) }) (drop 12 file))
 
     -- an edition of 0 is told by four
-    pub edition_zero_told : edition ≡ 0 → SettingJudged file 0
-    edition_zero_told z =
-        setting_bad file (λ good.
-        omega (arith, counted-five, counted_so file n four.small four.at_start good, edition_zero (read_setting file).value (edition_is ∙ z)))
+    pub edition_zero_told : edition ≡ 0 → SettingGood file → ⊥
+    edition_zero_told z good =
+        omega (arith, counted-five, counted_so file n four.small four.at_start good, edition_zero (read_setting file).value (edition_is ∙ z))
 
     module _ (d : edition ≢ 0) where
       abbrev later : Setting
       later = setting_of k a beta1 beta2 edition
 
-      later_laid : file ≡ setting_section later ++ drop 12 file
+      pub later_laid : Laid file later 12
       later_laid =
-          five_laid ∙ ap (λ b. counted number_bytes (k ∷ a ∷ beta1 ∷ beta2 ∷ cond b [] (edition ∷ [])) ++ drop 12 file) (sym (ne_eqb edition 0 d))
-
-      later_fits : SettingFits later
-      later_fits = record { k = four.small_k; a = four.small_a; beta1 = four.small_beta1; beta2 = four.small_beta2; edition = fe }
-
-      pub later_broken : is_good later ≡ false → SettingJudged file 0
-      later_broken = rules_broken file later 12 later_laid later_fits
-
-      pub later_kept : is_good later ≡ true → SettingJudged file 12
-      later_kept =
-          let long = ap (λ b. length (k ∷ a ∷ beta1 ∷ beta2 ∷ cond b [] (edition ∷ []))) (ne_eqb edition 0 d) in
-          rules_kept file later 12 later_laid later_fits (omega (arith, length_setting_section later, length_setting_numbers later, long))
+          let told = ne_eqb edition 0 d in
+          record {
+            laid = five_laid ∙ ap (λ b. counted number_bytes (k ∷ a ∷ beta1 ∷ beta2 ∷ cond b [] (edition ∷ [])) ++ drop 12 file) (sym told);
+            fits = record { k = four.small_k; a = four.small_a; beta1 = four.small_beta1; beta2 = four.small_beta2; edition = fe };
+            long = omega (arith, length_setting_section later, length_setting_numbers later, ap (λ b. length (k ∷ a ∷ beta1 ∷ beta2 ∷ cond b [] (edition ∷ []))) told);
+          }

@@ -1,5 +1,5 @@
--- What the judge's functions promise: a test that tells whether a claim holds, and an offset behind what was judged, 0 where it isn't good.
-use Rattle.std.specs.Prelude.{ℕ, ◌+◌, ◌<◌, ◌≤◌, ◌≡◌, Bool, true, false, List, ◌++◌, ◌≢◌, length, drop}
+-- What the judge's functions promise: a test that tells whether a claim holds, and an offset behind what was judged, none where it isn't good.
+use Rattle.std.specs.Prelude.{ℕ, ◌+◌, ◌<◌, ◌≤◌, ◌≡◌, Bool, true, false, List, ◌++◌, Option, MatchOption, length, drop}
 use Rattle.day_file.specs.Day.{DayBooking}
 use Rattle.day_file.specs.Bytes.{number_bytes, counted, booking_bytes}
 use Rattle.day_file.specs.Decode.{read_booking}
@@ -16,9 +16,8 @@ pub record SettingEnds (file : List ℕ) (next : ℕ) : Type 0 where
   pub end : next ≡ setting_end file
   pub most : next ≤ 12
 
-pub record SettingJudged (file : List ℕ) (r : ℕ) : Type 0 where
-  pub good : r ≢ 0 → SettingEnds file r
-  pub bad : r ≡ 0 → SettingGood file → ⊥
+abbrev pub SettingJudged : List ℕ → Option ℕ → Type 0
+SettingJudged file r = MatchOption r (SettingGood file → ⊥) (SettingEnds file)
 
 -- ---- the sections behind the setting: how many bookings, the bookings, how many polls, the polls
 
@@ -40,16 +39,15 @@ pub record RowEnds (sections : List ℕ) (at j next : ℕ) : Type 0 where
   pub past : at + 12 ≤ next
   pub within : next ≤ length sections
 
--- 0 where a rule is broken or bytes are missing
-pub record RowJudged (sections : List ℕ) (at j r : ℕ) : Type 0 where
-  pub good : r ≢ 0 → RowEnds sections at j r
-  pub bad : r ≡ 0 → row_good j (booking_from sections at) ≡ true → length sections < at + length (booking_bytes (booking_from sections at))
+-- none where a rule is broken or bytes are missing
+abbrev pub RowJudged : List ℕ → ℕ → ℕ → Option ℕ → Type 0
+RowJudged sections at j r =
+    MatchOption r (row_good j (booking_from sections at) ≡ true → length sections < at + length (booking_bytes (booking_from sections at))) (RowEnds sections at j)
 
 -- all bookings are by the rules, and their bytes end at the offset
 pub record BookingsEnd (sections : List ℕ) (n next : ℕ) : Type 0 where
   pub good : BookingsGood (drop 2 sections) n
   pub walked : Walked sections n next
 
-pub record BookingsJudged (sections : List ℕ) (n r : ℕ) : Type 0 where
-  pub good : r ≢ 0 → BookingsEnd sections n r
-  pub bad : r ≡ 0 → BookingsGood (drop 2 sections) n → ⊥
+abbrev pub BookingsJudged : List ℕ → ℕ → Option ℕ → Type 0
+BookingsJudged sections n r = MatchOption r (BookingsGood (drop 2 sections) n → ⊥) (BookingsEnd sections n)

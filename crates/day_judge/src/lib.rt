@@ -17,49 +17,34 @@ use day_file::bytes;
 use rules::layout;
 use terms::setting::Setting;
 
-// Where the setting ends; 0 where it isn't good. Four numbers are a setting of edition 0, and five one whose edition, the fifth, isn't 0.
-fn setting_end(file: &[u8]) -> usize
+// Where the setting ends, if it is good. Four numbers are a setting of edition 0, and five one whose edition, the fifth, isn't 0.
+fn setting_end(file: &[u8]) -> Option<usize>
     requires { 12 ≤ length file.now }
     ensures { SettingJudged file.now result }
 {
-    let count = day_get::number_at(file, 0);
     let k = day_get::number_at(file, bytes::K);
     let a = day_get::number_at(file, bytes::A);
     let beta1 = day_get::number_at(file, bytes::BETA1);
     let beta2 = day_get::number_at(file, bytes::BETA2);
-    if count == bytes::FIRST_NUMBERS {
-        if !(Setting {
-            k,
-            a,
-            beta1,
-            beta2,
-            edition: Setting::FIRST_EDITION,
+    let (edition, end) = match day_get::number_at(file, 0) {
+        bytes::FIRST_NUMBERS => (Setting::FIRST_EDITION, bytes::FIRST_END),
+        bytes::LATER_NUMBERS => {
+            let edition = day_get::number_at(file, bytes::EDITION);
+            if edition == Setting::FIRST_EDITION {
+                return None;
+            }
+            (edition, bytes::LATER_END)
         }
-        .is_good())
-        {
-            return 0;
-        }
-        return bytes::FIRST_END;
-    }
-    if count != bytes::LATER_NUMBERS {
-        return 0;
-    }
-    let edition = day_get::number_at(file, bytes::EDITION);
-    if edition == Setting::FIRST_EDITION {
-        return 0;
-    }
-    if !(Setting {
+        _ => return None,
+    };
+    let setting = Setting {
         k,
         a,
         beta1,
         beta2,
         edition,
-    }
-    .is_good())
-    {
-        return 0;
-    }
-    bytes::LATER_END
+    };
+    setting.is_good().then_some(end)
 }
 
 // ---- the sections behind the setting
@@ -69,9 +54,8 @@ fn fields_good(j: usize, slot: u16, count: usize) -> bool
     requires { j < 65536 }
     ensures { result ≡ fields_good j slot count }
 {
-    let s = slot as usize;
-    !((s == 0) | (layout::SLOTS <= s))
-        & !((count == 0) | (layout::MOST_PARENTS < count))
+    (1..layout::SLOTS).contains(&(slot as usize))
+        & (1..=layout::MOST_PARENTS).contains(&count)
         & (j + 1 < layout::MOST_BOOKINGS)
 }
 
@@ -81,8 +65,8 @@ fn parents_good(parents: &[u16], count: usize, j: usize) -> bool
     ensures { result ≡ parents_good j parents.now count }
 {
     let mut named = [0u64; bits::BIT_WORDS];
-    for a in 0..count {
-        let p = parents[a] as usize;
+    for parent in &parents[..count] {
+        let p = *parent as usize;
         if !((p < j + 1) & !bits::is_set(&named, p)) {
             return false;
         }
@@ -91,28 +75,25 @@ fn parents_good(parents: &[u16], count: usize, j: usize) -> bool
     true
 }
 
-// Where the booking ends that starts at the offset, after j others; 0 where bytes are missing or a rule is broken, but for that of its name.
-fn row_end(sections: &[u8], at: usize, j: usize) -> usize
+// Where the booking ends that starts at the offset, after j others, if no bytes are missing and no rule is broken, but for that of its name.
+fn row_end(sections: &[u8], at: usize, j: usize) -> Option<usize>
     requires { (at ≤ length sections.now) × (j < 65536) }
     ensures { RowJudged sections.now at j result }
 {
     if sections.len() - at < bytes::PARENTS {
-        return 0;
+        return None;
     }
     let slot = day_get::number_at(sections, at + bytes::SLOT);
     let count = day_get::number_at(sections, at + bytes::PARENTS_COUNT) as usize;
     if !fields_good(j, slot, count) {
-        return 0;
+        return None;
     }
     let end = at + bytes::PARENTS + bytes::NUMBER_BYTES * count;
     if sections.len() < end {
-        return 0;
+        return None;
     }
     let parents = day_get::parents_at(sections, at + bytes::PARENTS, count);
-    if !parents_good(&parents, count, j) {
-        return 0;
-    }
-    end
+    parents_good(&parents, count, j).then_some(end)
 }
 
 // No number up to j has the name: a look at the genesis, and at each of the first j bookings.
@@ -124,7 +105,7 @@ fn look_back(sections: &[u8], j: usize, name: u64) -> bool
         return false;
     }
     let mut at = bytes::NUMBER_BYTES;
-    for i in 0..j {
+    for _ in 0..j {
         if day_get::name_at(sections, at) == name {
             return false;
         }
@@ -145,24 +126,21 @@ fn enter_name(sections: &[u8], j: usize, name: u64, filter: &mut [u64]) -> bool
     true
 }
 
-// Where the bookings end, so many of them; 0 where bytes are missing or a rule is broken. The filter, of the genesis's name at first, is scratch.
-fn bookings_end(sections: &[u8], count: usize, filter: &mut [u64]) -> usize
+// Where the bookings end, so many of them, if no bytes are missing and no rule is broken. The filter, of the genesis's name at first, is scratch.
+fn bookings_end(sections: &[u8], count: usize, filter: &mut [u64]) -> Option<usize>
     requires { (2 ≤ length sections.now) × (count < 65536) × (filter.old ≡ names_noted (name_read (drop 2 sections.now)) 1) }
     ensures { BookingsJudged sections.now count result }
 {
     let mut at = bytes::NUMBER_BYTES;
     for j in 0..count {
-        let end = row_end(sections, at, j);
-        if end == 0 {
-            return 0;
-        }
+        let end = row_end(sections, at, j)?;
         let name = day_get::name_at(sections, at);
         if !enter_name(sections, j, name, filter) {
-            return 0;
+            return None;
         }
         at = end;
     }
-    at
+    Some(at)
 }
 
 // Sets the bit of the poll's booking, and tells whether the poll is good: of a booking other than the genesis that was not polled before, and with an outcome of 0 or 1.
@@ -178,7 +156,8 @@ fn enter_poll(sections: &[u8], at: usize, most: usize, seen: &mut [u64]) -> bool
     good
 }
 
-// The polls stand from the offset to the end, and each is good. The bits of bookings seen, none at first, are scratch.
+// The polls stand from the offset to the end, and each is good. The bits of bookings seen, none at first, are scratch. By place: a poll is four bytes, and sets
+// its booking's bit.
 fn polls_good(sections: &[u8], at: usize, most: usize, seen: &mut [u64]) -> bool
     requires { (at ≤ length sections.now) × (most < most_bookings) × (seen.old ≡ no_bits) }
     ensures { Decides result (PollsGood most (drop at sections.now)) }
@@ -206,18 +185,16 @@ pub fn is_good(file: &[u8]) -> bool
     if file.len() < bytes::LEAST_FILE {
         return false;
     }
-    let start = setting_end(file);
-    if start == 0 {
+    let Some(start) = setting_end(file) else {
         return false;
-    }
+    };
     let sections = &file[start..];
     let count = day_get::number_at(sections, 0) as usize;
     let mut filter = [0u64; name_filter::FILTER_WORDS];
     name_filter::note(&mut filter, 0);
-    let at = bookings_end(sections, count, &mut filter);
-    if at == 0 {
+    let Some(at) = bookings_end(sections, count, &mut filter) else {
         return false;
-    }
+    };
     let mut seen = [0u64; bits::BIT_WORDS];
     polls_good(sections, at, count, &mut seen)
 }

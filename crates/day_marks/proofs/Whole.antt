@@ -1,13 +1,11 @@
 -- A file that is cut where its first three sections end: it is a good second-form file exactly if the front is a good first-form one and what is behind are good
 -- marks. Assumes nothing.
-use mathlib.Core.Path.{◌≡◌, refl, sym, ap, ◌∙◌}
+use mathlib.Core.Path.{◌≡◌, sym, ap, ◌∙◌}
 use mathlib.Core.Bool.{Bool, true, false, ◌&&◌, true≢false}
 use mathlib.Core.List.{List, ◌++◌}
 use Prim.Native.Nat.{ℕ, ◌+◌, ◌<◌, ◌≤◌}
-use native.Mathlib.Omega.{arith}
 use lib.Dec.{eqb, leb}
 use lib.ListN.{length, take, drop, take-append-drop}
-use lib.Seq.{length-take-le}
 use borrow.Author.Tests.{leb-false, not-true}
 use Rattle.loops.proofs.Bools.{and_left, and_right, and_both, row_at, neither, refuted}
 use Rattle.loops.proofs.Search.{all→}
@@ -23,8 +21,7 @@ use Rattle.day_file.specs.DayRules.{booking_passes, day_good}
 use Rattle.day_file.proofs.SecondFile.{front_good, front_cut, joined_day, joined_good, good_joined}
 use Rattle.promises.proofs.DayGood.{booking_tests, day_tests}
 use Rattle.promises.proofs.Replayed.{replay_good}
-use Rattle.day_judge.proofs.Whole.{good_least}
-use Rattle.day_marks.specs.Judged.{NumbersGood, SlotsGood, SecondJudged}
+use Rattle.day_marks.specs.Judged.{NumbersGood, SlotsGood, SecondEnds}
 
 -- ---- the rules of marks, that of their slots apart
 
@@ -62,10 +59,6 @@ file_slots file good = day_slots (decode file) (sym (replay_good (decode file)) 
 
 -- ---- the file
 
--- not good: 0
-second_bad : (file : List ℕ) → (good_second file ≡ true → ⊥) → SecondJudged file 0
-second_bad file h = record { good = λ d. absurd (d refl); bad = λ e. refuted (good_second file) h }
-
 module _ (file : List ℕ) (end : ℕ) (within : end ≤ length file) (there : drop end file ≡ behind_day file) where
   abbrev front : List ℕ
   front = take end file
@@ -76,8 +69,8 @@ module _ (file : List ℕ) (end : ℕ) (within : end ≤ length file) (there : d
   abbrev bs : List DayBooking
   bs = (decode file).bookings
 
-  pub front_bad : good_file front ≡ false → SecondJudged file 0
-  front_bad e = second_bad file (λ good. true≢false (sym (ap good_file (front_cut file good end within there) ∙ front_good file good) ∙ e))
+  pub front_bad : good_file front ≡ false → good_second file ≡ false
+  front_bad e = refuted (good_second file) (λ good. true≢false (sym (ap good_file (front_cut file good end within there) ∙ front_good file good) ∙ e))
 
   module _ (good : good_file front ≡ true) where
     whole_is : front ++ section ≡ file
@@ -97,23 +90,26 @@ module _ (file : List ℕ) (end : ℕ) (within : end ≤ length file) (there : d
       behind_good : marks_good bs (marks_in section) ≡ true
       behind_good = ap (λ d. marks_good d.bookings (marks_in section)) (sym day_is) ∙ (good_joined front section good (ap good_second whole_is ∙ whole)).1
 
-    pub numbers_bad : (NumbersGood (length bs + 1) section → ⊥) → SecondJudged file 0
-    numbers_bad h = second_bad file (λ whole. h (record { laid = behind_laid whole; rules = numbers_ruled bs (marks_in section) (behind_good whole) }))
+    -- what is left of the file, and how many bookings its ledger has, as the code has them
+    module _ {rest : List ℕ} {n : ℕ} (cut : rest ≡ section) (many : n ≡ length bs + 1) where
+      pub numbers_bad : (NumbersGood n rest → ⊥) → good_second file ≡ false
+      numbers_bad h =
+          refuted (good_second file) (λ whole.
+          h (rw (many, cut) (record { laid = behind_laid whole; rules = numbers_ruled bs (marks_in section) (behind_good whole) })))
 
-    pub slots_bad : slots_differ bs (marks_in section) ≡ false → SecondJudged file 0
-    slots_bad e = second_bad file (λ whole. true≢false (sym (slots_ruled bs (marks_in section) (behind_good whole)) ∙ e))
+      pub slots_bad : slots_differ bs (marks_in rest) ≡ false → good_second file ≡ false
+      slots_bad e =
+          refuted (good_second file) (λ whole. true≢false (sym (slots_ruled bs (marks_in section) (behind_good whole)) ∙ rw cut at e))
 
-    pub second_good : NumbersGood (length bs + 1) section → slots_differ bs (marks_in section) ≡ true → SecondJudged file end
-    second_good numbers differ =
-        record {
-          good = λ d. record {
+      pub second_good : NumbersGood n rest → slots_differ bs (marks_in rest) ≡ true → SecondEnds file end
+      second_good good-numbers e =
+          let numbers : NumbersGood (length bs + 1) section = rw (many, cut) at good-numbers in
+          record {
             within = within;
             whole = ap good_second (sym whole_is)
                 ∙ joined_good front section good numbers.laid
-                (ap (λ d. marks_good d.bookings (marks_in section)) day_is ∙ both_ruled bs (marks_in section) numbers.rules differ);
+                (ap (λ d. marks_good d.bookings (marks_in section)) day_is ∙ both_ruled bs (marks_in section) numbers.rules (rw cut at e));
             front = good;
             day = day_is;
             back = numbers.laid ∙ ap (λ l. marks_section (marks_in l)) there;
-          };
-          bad = λ e. absurd (omega (arith, good_least front good, length-take-le end file within));
-        }
+          }

@@ -1,5 +1,5 @@
--- What the judge's functions promise: of the marks' numbers and of the bookings' slots, and an offset where the marks of a good second-form file start, 0 where it isn't good.
-use Rattle.std.specs.Prelude.{ℕ, ◌<◌, ◌≤◌, ◌≡◌, true, false, ◌&&◌, List, ◌≢◌, length, take, drop}
+-- What the judge's functions promise: of the marks' numbers and of the bookings' slots, and an offset where the marks of a good second-form file start, none where it isn't good.
+use Rattle.std.specs.Prelude.{ℕ, ◌<◌, ◌≤◌, ◌≡◌, true, false, ◌&&◌, List, Option, MatchOption, length, take, drop}
 use Rattle.rules.specs.Layout.{slots}
 use Rattle.day_file.specs.Day.{DayBooking, booking_in}
 use Rattle.day_file.specs.Bytes.{marks_section}
@@ -24,6 +24,5 @@ pub record SecondEnds (file : List ℕ) (end : ℕ) : Type 0 where
   pub day : decode (take end file) ≡ decode file
   pub back : drop end file ≡ marks_section (decode_marked file).marks
 
-pub record SecondJudged (file : List ℕ) (r : ℕ) : Type 0 where
-  pub good : r ≢ 0 → SecondEnds file r
-  pub bad : r ≡ 0 → good_second file ≡ false
+abbrev pub SecondJudged : List ℕ → Option ℕ → Type 0
+SecondJudged file r = MatchOption r (good_second file ≡ false) (SecondEnds file)

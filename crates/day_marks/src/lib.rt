@@ -16,10 +16,7 @@ use day_file::bytes;
 fn byte_at(file: &[u8], at: usize) -> usize
     ensures { (result ≡ get_or file.now at 0) × (result < 256) }
 {
-    if at < file.len() {
-        return file[at] as usize;
-    }
-    0
+    file.get(at).copied().unwrap_or(0) as usize
 }
 
 // The number of two bytes at an offset.
@@ -35,10 +32,7 @@ fn past(file: &[u8], at: usize, count: usize) -> usize
     requires { at ≤ length file.now }
     ensures { (result ≤ length file.now) × (drop result file.now ≡ drop count (drop at file.now)) }
 {
-    if file.len() - at < count {
-        return file.len();
-    }
-    at + count
+    at.saturating_add(count).min(file.len())
 }
 
 // Where the bookings start, at their count.
@@ -64,7 +58,7 @@ fn bookings_end(file: &[u8], start: usize, count: usize) -> usize
     ensures { (result ≤ length file.now) × (drop result file.now ≡ (read_many read_booking count (drop start file.now)).rest) }
 {
     let mut at = start;
-    for j in 0..count {
+    for _ in 0..count {
         if at == file.len() {
             return at;
         }
@@ -94,7 +88,8 @@ fn mark_at(section: &[u8], a: usize) -> usize
     number_at(section, bytes::NUMBER_BYTES + bytes::NUMBER_BYTES * a)
 }
 
-// The section holds its count and as many numbers, the first 0, each above the one before it and below n.
+// The section holds its count and as many numbers, the first 0, each above the one before it and below n. A loop that carries the last: over pairs each
+// would be read twice.
 fn numbers_good(section: &[u8], n: usize) -> bool
     requires { 0 < n }
     ensures { Decides result (NumbersGood n section.now) }
@@ -120,7 +115,8 @@ fn numbers_good(section: &[u8], n: usize) -> bool
     true
 }
 
-// No two of the marks are of one slot: the bits set are the slots of the marks before. The numbers rise as the bookings do, so the bookings are walked once.
+// No two of the marks are of one slot: the bits set are the slots of the marks before. The numbers rise as the bookings do, so the bookings are walked once,
+// beside the marks: a loop by place.
 fn slots_differ(file: &[u8], section: &[u8]) -> bool
     requires { NumbersGood (length (decode file.now).bookings + 1) section.now × SlotsGood (decode file.now).bookings }
     ensures { result ≡ slots_differ (decode file.now).bookings (marks_in section.now) }
@@ -143,21 +139,21 @@ fn slots_differ(file: &[u8], section: &[u8]) -> bool
     true
 }
 
-// Where the marks of a good second-form file start, behind a good first-form one; 0 where the file isn't good.
-pub fn judge(file: &[u8]) -> usize
+// Where the marks of a good second-form file start, behind a good first-form one, if the file is good.
+pub fn judge(file: &[u8]) -> Option<usize>
     ensures { SecondJudged file.now result }
 {
     let end = day_end(file);
     if !day_judge::is_good(&file[..end]) {
-        return 0;
+        return None;
     }
     let n = number_at(file, bookings_start(file)) + 1;
     let section = &file[end..];
     if !numbers_good(section, n) {
-        return 0;
+        return None;
     }
     if !slots_differ(file, section) {
-        return 0;
+        return None;
     }
-    end
+    Some(end)
 }

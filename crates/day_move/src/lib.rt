@@ -16,7 +16,7 @@ fn move_first(file: &[u8], out: &mut [u8]) -> Answer
     ensures { outcome result out.new ≡ move_file_call First file.now out.old }
 {
     if !day_judge::is_good(file) {
-        return Answer::Refused(Refusal::BadFile);
+        return Err(Refusal::BadFile);
     }
     let mut w = [0u16; layout::SIZE];
     day_replay::replay(&mut w, file);
@@ -27,18 +27,18 @@ fn move_first(file: &[u8], out: &mut [u8]) -> Answer
 fn move_second(file: &[u8], out: &mut [u8]) -> Answer
     ensures { outcome result out.new ≡ move_file_call Second file.now out.old }
 {
-    let end = day_marks::judge(file);
-    if end == 0 {
-        return Answer::Refused(Refusal::BadFile);
-    }
+    let Some(end) = day_marks::judge(file) else {
+        return Err(Refusal::BadFile);
+    };
     let mut w = [0u16; layout::SIZE];
     day_replay::replay(&mut w, &file[..end]);
     if !day_remark::has_same(&w, &file[end..]) {
-        return Answer::Refused(Refusal::OtherMarks);
+        return Err(Refusal::OtherMarks);
     }
     known_write::write_first(&w, out)
 }
 
+// Each form has its own function, so a match and no table.
 // The form is that of the file that is read. Refusals 17, 19, 16.
 pub fn move_file(form: Form, file: &[u8], out: &mut [u8]) -> Answer
     ensures { outcome result out.new ≡ move_file_call form file.now out.old }

@@ -1,21 +1,29 @@
--- A word in two bytes, and several of them: one more of a list, and the room for it.
-use mathlib.Core.Path.{◌≡◌, sym, ap, ◌∙◌}
-use mathlib.Core.List.{List, [], ◌∷◌, append-nil}
-use Prim.Native.Nat.{ℕ, ◌+◌, ◌*◌, ◌/◌, ◌%◌, ◌<◌, ◌≤◌}
+-- A number's bytes over a part of a buffer, and several words: one more of a list, and the room for it.
+use mathlib.Core.Path.{◌≡◌, refl, sym, ap, ◌∙◌}
+use mathlib.Core.List.{List, [], ◌∷◌, append_assoc, append-nil}
+use Prim.Native.Nat.{ℕ, zero, suc, ◌+◌, ◌*◌, ◌/◌, ◌%◌, ◌^◌, ◌<◌, ◌≤◌}
 use native.Mathlib.Numerals.{add-one}
-use lib.ListN.{length, get_or, set, take}
-use lib.Seq.{sets, take-suc, length-take-le}
+use native.Mathlib.Omega.{arith}
+use lib.ListN.{length, get_or, take}
+use lib.Seq.{sets-eq, take-suc, length-take-le}
+use borrow.Rule.Slice.PartMut.{put_mid}
+use Rattle.std.specs.Int.{bytes_high_first}
+use Rattle.std.proofs.Common.{drop-drop}
 use Rattle.put.specs.Put.{Put}
 use Rattle.put.proofs.Puts.{put_none, put_then}
-use Rattle.day_file.specs.Bytes.{number_bytes, joined}
+use Rattle.day_file.specs.Bytes.{high_first, number_bytes, joined}
+use Rattle.day_file.proofs.Numbers.{high_first_bytes}
 use Rattle.day_file.proofs.Joined.{length_high_first, length_joined_even, joined_append}
-use Rattle.day_file.proofs.Numbers.{word_bytes}
 
-pub put_word : (out : List ℕ) (at v : ℕ) → v < 65536 → Put out at (number_bytes v) (at + 2) (set (set out at (v / 256)) (at + 1) (v % 256))
-put_word out at v small =
+-- a part of the buffer, as long as they are, that was written over with them
+pub put_bytes : (out : List ℕ) (at b v k : ℕ) {ys : List ℕ} → at + b ≤ length out → k ≡ b → ys ≡ bytes_high_first b v
+    → Put out at (high_first b v) (at + b) (put_mid at k out ys)
+put_bytes out at b v k {ys} room e told =
+    let ours : ys ≡ high_first b v = told ∙ high_first_bytes b v in
+    let long : length (high_first b v) ≡ b = length_high_first b v in
     record {
-      next = ap (λ n. at + n) (sym (length_high_first 2 v));
-      after = rw (add-one at) (ap (sets out at) (word_bytes v small));
+      next = ap (λ n. at + n) (sym long);
+      after = rw (ours, e, sets-eq (high_first b v) out at (omega (arith, long)), long, drop-drop, append_assoc);
     }
 
 -- ---- the loop over several

@@ -23,7 +23,7 @@ fn clear(w: &mut [u16])
     }
 }
 
-// The bookings whose numbers stand in the section have a mark, and no others.
+// The bookings whose numbers stand in the section have a mark, and no others. By place: a number is two bytes of it.
 pub fn remark(w: &mut [u16], section: &[u8])
     requires { (length w.old ≡ size) × (bookings w.old ≤ most_bookings) × MarksLaid section.now }
     ensures { w.new ≡ remarked (marks_in section.now) w.old }
@@ -36,7 +36,8 @@ pub fn remark(w: &mut [u16], section: &[u8])
     }
 }
 
-// Whether the words' marks are those of the section: each mark of the words, in rising number, is the next of the section, and none is left.
+// Whether the words' marks are those of the section: each mark of the words, in rising number, is the next of the section, and none is left. A loop: std has
+// no law that two chains which are equal give equal lists.
 pub fn has_same(w: &[u16], section: &[u8]) -> bool
     requires { (length w.now ≡ size) × (bookings w.now ≤ most_bookings) × MarksLaid section.now }
     ensures { result ≡ same_list (marks_of w.now) (marks_in section.now) }
@@ -49,15 +50,14 @@ pub fn has_same(w: &[u16], section: &[u8]) -> bool
             if next == count {
                 return false;
             }
-            if day_get::number_at(
+            let mark = day_get::number_at(
                 section,
                 bytes::NUMBER_BYTES + bytes::NUMBER_BYTES * next,
-            ) as usize
-                != i
-            {
+            ) as usize;
+            if mark != i {
                 return false;
             }
-            next = next + 1;
+            next += 1;
         }
     }
     next == count

@@ -1,5 +1,5 @@
 // The words of the day that a good file carries: the opening, then each booking, then each poll, in the file's order. The file is known to be good, so each of
-// its calls is taken, and no refusal is judged again.
+// its calls is taken, and no refusal is judged again. That it is good is asked for: a type that says so would ask more of callers.
 #![tactic(auto)]
 
 ghost use Rattle.std.specs.Prelude.{◌≡◌, true, ◌+◌, ◌*◌, ◌≤◌, length, drop};
@@ -14,6 +14,7 @@ use day_file::bytes;
 use terms::setting::Setting;
 
 // The opening, with the file's setting; the offset of the bookings. Four numbers are a setting of edition 0, and the fifth of five is the edition.
+#[tactic(auto, using(crate::proofs::GoodFile::file_least))]
 fn reopen(w: &mut [u16], file: &[u8]) -> usize
     requires { (length w.old ≡ size) × (good_file file.now ≡ true) }
     ensures { (w.new ≡ (rebooked (decode file.now) 0).words) × (drop result file.now ≡ behind_setting (decode file.now)) }
@@ -22,31 +23,20 @@ fn reopen(w: &mut [u16], file: &[u8]) -> usize
     let a = day_get::number_at(file, bytes::A);
     let beta1 = day_get::number_at(file, bytes::BETA1);
     let beta2 = day_get::number_at(file, bytes::BETA2);
-    if day_get::number_at(file, 0) == bytes::FIRST_NUMBERS {
-        open_writes::write_open(
-            w,
-            Setting {
-                k,
-                a,
-                beta1,
-                beta2,
-                edition: Setting::FIRST_EDITION,
-            },
-        );
-        return bytes::FIRST_END;
-    }
-    let edition = day_get::number_at(file, bytes::EDITION);
-    open_writes::write_open(
-        w,
-        Setting {
-            k,
-            a,
-            beta1,
-            beta2,
-            edition,
-        },
-    );
-    bytes::LATER_END
+    let (edition, end) = if day_get::number_at(file, 0) == bytes::FIRST_NUMBERS {
+        (Setting::FIRST_EDITION, bytes::FIRST_END)
+    } else {
+        (day_get::number_at(file, bytes::EDITION), bytes::LATER_END)
+    };
+    let setting = Setting {
+        k,
+        a,
+        beta1,
+        beta2,
+        edition,
+    };
+    open_writes::write_open(w, setting);
+    end
 }
 
 // Books what stands at an offset, and gives the offset behind it.
@@ -69,7 +59,7 @@ fn rebook_all(w: &mut [u16], file: &[u8], start: usize) -> usize
 {
     let count = words::wide(day_get::number_at(file, start));
     let mut at = start + bytes::NUMBER_BYTES;
-    for j in 0..count {
+    for _ in 0..count {
         at = rebook(w, file, at);
     }
     at
@@ -91,9 +81,9 @@ fn repoll_all(w: &mut [u16], file: &[u8], at: usize)
     requires { (w.old ≡ (repolled (decode file.now) 0).words) × (good_file file.now ≡ true) × (drop at file.now ≡ polls_section (decode file.now).polls) }
     ensures { w.new ≡ (replay (decode file.now)).words }
 {
-    let count = words::wide(day_get::number_at(file, at));
+    let polls = words::wide(day_get::number_at(file, at));
     let mut next = at + bytes::NUMBER_BYTES;
-    for q in 0..count {
+    for _ in 0..polls {
         next = repoll(w, file, next);
     }
 }

@@ -1,19 +1,43 @@
 -- A booking's parts, one after the other, are its row; a poll's two numbers at the place of its ordinal are what its record writes.
-use mathlib.Core.Path.{◌≡◌, sym, ap₂}
+use mathlib.Core.Path.{◌≡◌, sym, ap, ap₂, ◌∙◌}
+use mathlib.Core.Bool.{Bool, true, false, not, cond}
 use mathlib.Core.List.{List, ◌++◌}
 use mathlib.Core.Logic.{◌≢◌}
-use Prim.Native.Nat.{ℕ}
+use Prim.Native.Nat.{ℕ, zero, suc, ◌+◌}
+use native.Mathlib.Nat.{zero-add, add-zero}
+use native.Mathlib.Omega.{arith}
+use Rattle.std.specs.List.{prefix_len}
 use lib.Dec.{eqb}
 use borrow.Author.Tests.{eq-eqb, ne_eqb}
+use Rattle.loops.specs.Search.{first_from}
 use Rattle.loops.specs.Fill.{from}
 use Rattle.loops.specs.Total.{bit}
 use Rattle.loops.proofs.Fill.{length_from, from_shift}
-use Rattle.rules.specs.Layout.{parents_field, field, name_of, slot_of, parent_of, state_of, ordinal_of}
+use Rattle.rules.specs.Layout.{most_parents, none, parents_field, field, name_of, slot_of, parent_of, state_of, ordinal_of}
 use Rattle.put.specs.Put.{Put}
 use Rattle.put.proofs.Puts.{put_then}
 use Rattle.day_file.specs.Day.{parent_count, booking_at}
 use Rattle.day_file.specs.Bytes.{number_bytes, name_bytes, joined, booking_bytes}
 use Rattle.day_file.specs.InTurn.{poll_at, pair_at}
+
+-- ---- how many parents
+
+-- the elements before the first that fails are as many as the numbers before the first at which the test passes
+first_of : (p : ℕ → Bool) (f : ℕ → ℕ) (i n : ℕ) → i + prefix_len (λ x. not (p x)) (from f i n) ≡ first_from (λ a. p (f a)) i n
+unfolding from first_from
+first_of p f i zero = add-zero i
+first_of p f i (suc n) = step (p (f i)) _ _ (first_of p f (suc i) n)
+  where
+    step : (b : Bool) (k m : ℕ) → suc i + k ≡ m → i + cond (not b) (1 + k) 0 ≡ elim b [ true ↦ i | false ↦ m ]
+    step true k m e = add-zero i
+    step false k m e = omega arith
+
+pub parents_counted : (w : List ℕ) (i : ℕ) {places : List ℕ} → places ≡ from (field w i) parents_field most_parents
+    → prefix_len (λ p. not (eqb p none)) places ≡ parent_count w i
+unfolding parent_count
+parents_counted w i same =
+    ap (prefix_len (λ p. not (eqb p none))) (same ∙ sym (from_shift (field w i) parents_field 0 most_parents))
+    ∙ sym (zero-add (prefix_len (λ p. not (eqb p none)) (from (parent_of w i) 0 most_parents))) ∙ first_of (λ p. eqb p none) (parent_of w i) 0 most_parents
 
 -- ---- a booking
 

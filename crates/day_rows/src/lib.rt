@@ -15,12 +15,8 @@ pub fn parent_count(w: &[u16], i: usize) -> usize
     requires { (length w.now ≡ size) × (i < most_bookings) }
     ensures { result ≡ parent_count w.now i }
 {
-    for a in 0..layout::MOST_PARENTS {
-        if words::field(w, i, layout::PARENTS + a) == layout::NONE {
-            return a;
-        }
-    }
-    layout::MOST_PARENTS
+    let places = words::fields(w, i, layout::PARENTS, layout::MOST_PARENTS);
+    places.iter().take_while(|p| **p != layout::NONE).count()
 }
 
 // Name and slot of booking i, how many parents it has, and their numbers.

@@ -2,7 +2,7 @@
 // And how long the first form is.
 #![tactic(auto)]
 
-ghost use Rattle.std.specs.Prelude.{◌≡◌, ◌+◌, ◌*◌, ◌-◌, ◌≤◌, length};
+ghost use Rattle.std.specs.Prelude.{◌≡◌, ◌+◌, ◌*◌, ◌-◌, ◌<◌, ◌≤◌, length};
 ghost use Rattle.std.proofs.lemmas.List.Edits.{sets};
 ghost use Rattle.loops.specs.Fill.{from};
 ghost use Rattle.loops.specs.Total.{total};
@@ -10,7 +10,7 @@ ghost use Rattle.terms.specs.Setting.{setting_numbers};
 ghost use Rattle.rules.specs.Layout.{size, most_bookings, bookings, setting_in, polls};
 ghost use Rattle.rules.specs.Sound.{Ledger};
 ghost use Rattle.put.specs.Put.{Put};
-ghost use Rattle.day_file.specs.Day.{booking_at, poll_of, holder, marks_of};
+ghost use Rattle.day_file.specs.Day.{parent_count, booking_at, poll_of, holder, marks_of};
 ghost use Rattle.day_file.specs.Bytes.{setting_section, bookings_section, polls_section, marks_section, day_file};
 ghost use Rattle.day_file.specs.InTurn.{edition_length, booking_length};
 
@@ -28,19 +28,33 @@ fn setting_numbers(w: &[u16]) -> u16
     bytes::LATER_NUMBERS
 }
 
+// How many bytes booking i takes: 12 and its parents.
+#[tactic(auto, using(day_file::proofs::Parents::parent_count_most))]
+fn row_length(w: &[u16], i: usize) -> usize
+    requires { (length w.now ≡ size) × (i < most_bookings) }
+    ensures { result ≡ 12 + 2 * parent_count w.now i }
+{
+    12 + 2 * day_rows::parent_count(w, i)
+}
+
+// How many bytes the bookings take.
+fn rows_length(w: &[u16]) -> usize
+    requires { Ledger w.now }
+    ensures { result ≡ total (booking_length w.now) (bookings w.now - 1) }
+{
+    let n = words::wide(words::header(w, layout::BOOKINGS));
+    (1..n).map(|i| row_length(w, i)).sum()
+}
+
 // Three counts and the setting, 12 bytes and its parents for each booking, and 4 for each poll.
+#[tactic(auto, using(day_file::proofs::Lengths::bookings_most_lem))]
 pub fn file_length(w: &[u16]) -> usize
     requires { Ledger w.now }
     ensures { result ≡ length (day_file w.now) }
 {
-    let n = words::wide(words::header(w, layout::BOOKINGS));
     let p = words::wide(words::header(w, layout::POLLS));
     let numbers = words::wide(setting_numbers(w));
-    let mut rows = 0;
-    for j in 0..n - 1 {
-        rows = rows + (12 + 2 * day_rows::parent_count(w, j + 1));
-    }
-    6 + 2 * numbers + rows + 4 * p
+    6 + 2 * numbers + rows_length(w) + 4 * p
 }
 
 // The first: how many numbers tell the setting, and each of them. The edition is the last.
@@ -62,10 +76,10 @@ pub fn put_bookings(w: &[u16], out: &mut [u8]) -> usize
     requires { Ledger w.now × (2 + total (booking_length w.now) (bookings w.now - 1) ≤ length out.old) }
     ensures { Put out.old 0 (bookings_section (from (booking_at w.now) 1 (bookings w.now - 1))) result out.new }
 {
-    let count = words::header(w, layout::BOOKINGS) - 1;
-    let mut next = day_put::put_number(out, 0, count);
-    for j in 0..count as usize {
-        next = day_rows::put_booking(w, j + 1, out, next);
+    let n = words::header(w, layout::BOOKINGS);
+    let mut next = day_put::put_number(out, 0, n - 1);
+    for i in 1..n as usize {
+        next = day_rows::put_booking(w, i, out, next);
     }
     next
 }
@@ -88,13 +102,9 @@ pub fn mark_count(w: &[u16]) -> usize
     ensures { result ≡ length (marks_of w.now) }
 {
     let n = words::wide(words::header(w, layout::BOOKINGS));
-    let mut marks = 0;
-    for i in 0..n {
-        if words::field(w, i, layout::MARK) == 1 {
-            marks = marks + 1;
-        }
-    }
-    marks
+    (0..n)
+        .filter(|i| words::field(w, *i, layout::MARK) == 1)
+        .count()
 }
 
 // The fourth, in the second form: how many bookings are marked, and their numbers.

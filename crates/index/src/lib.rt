@@ -9,10 +9,10 @@ ghost use Rattle.terms.specs.declared.answer.Refusal.TheVariants.{WrongIndex};
 ghost use Rattle.name_index.specs.Calls.{is_wrong_index, index_build_call, index_enter_call, index_find_call};
 
 use name_index::cells;
-use terms::answer::{Answer, Refusal, Tested};
+use terms::answer::{Answer, Refusal};
 
 // Whether the words are a ledger and the index has its length, or which of refusals 1, 18, 2, 14 and 15 stops the call.
-fn test(w: &[u16], index: &[u16]) -> Tested
+fn test(w: &[u16], index: &[u16]) -> Result<(), Refusal>
     ensures { result ≡ beside_of (is_wrong_index index.now) WrongIndex w.now }
 {
     ledger_test::test_beside(w, index.len() != cells::CELLS, Refusal::WrongIndex)
@@ -22,28 +22,22 @@ fn test(w: &[u16], index: &[u16]) -> Tested
 pub fn build(w: &[u16], index: &mut [u16]) -> Answer
     ensures { handover result w.now index.new ≡ index_build_call w.now index.old }
 {
-    match test(w, index) {
-        Tested::Stop(refusal) => Answer::Refused(refusal),
-        Tested::Fine => known_index::build(w, index),
-    }
+    test(w, index)?;
+    known_index::build(w, index)
 }
 
 // The newest booking's number enters the index. Refusals 1, 18, 2, 14, 15, 27.
 pub fn enter(w: &[u16], index: &mut [u16]) -> Answer
     ensures { handover result w.now index.new ≡ index_enter_call w.now index.old }
 {
-    match test(w, index) {
-        Tested::Stop(refusal) => Answer::Refused(refusal),
-        Tested::Fine => known_index::enter(w, index),
-    }
+    test(w, index)?;
+    known_index::enter(w, index)
 }
 
 // The number of the booking with the name, as probing the index finds it. Refusals 1, 18, 2, 14, 15, 10.
 pub fn find(w: &[u16], index: &[u16], name: u64) -> Answer
     ensures { result ≡ index_find_call w.now index.now name }
 {
-    match test(w, index) {
-        Tested::Stop(refusal) => Answer::Refused(refusal),
-        Tested::Fine => known_index::find(w, index, name),
-    }
+    test(w, index)?;
+    known_index::find(w, index, name)
 }

@@ -8,31 +8,28 @@ ghost use Rattle.rules.specs.Book.{look_up, is_found};
 ghost use Rattle.rules.specs.Calls.{is_bad_slot, is_bad_count, book_call};
 
 use rules::layout;
-use terms::answer::{Answer, Found, Refusal};
+use terms::answer::{Answer, Refusal};
 
 // The name is already booked.
 fn is_booked(w: &[u16], name: u64) -> bool
     requires { Ledger w.now }
     ensures { result ≡ is_found (look_up w.now name) }
 {
-    match booking_reads::booking::find(w, name) {
-        Found::At(_) => true,
-        Found::Absent => false,
-    }
+    booking_reads::booking::find(w, name).is_some()
 }
 
 // Slot 0 is the genesis's alone, and above 255 there is none.
 fn is_bad_slot(slot: u16) -> bool
     ensures { result ≡ is_bad_slot slot }
 {
-    (slot == 0) | (layout::SLOTS <= words::wide(slot))
+    !(1..layout::SLOTS).contains(&words::wide(slot))
 }
 
 // A booking has one to four parents.
 fn is_bad_count(count: usize) -> bool
     ensures { result ≡ is_bad_count count }
 {
-    (count == 0) | (layout::MOST_PARENTS < count)
+    !(1..=layout::MOST_PARENTS).contains(&count)
 }
 
 // Refusals 4, 5 and 6 come before those of the parents.
@@ -40,17 +37,14 @@ pub fn book(w: &mut [u16], name: u64, slot: u16, parents: &[u64]) -> Answer
     requires { Ledger w.old }
     ensures { outcome result w.new ≡ book_call w.old name slot parents.now }
 {
-    let taken = is_booked(w, name);
-    let bad_slot = is_bad_slot(slot);
-    let bad_count = is_bad_count(parents.len());
-    if taken {
-        return Answer::Refused(Refusal::NameTaken);
+    if is_booked(w, name) {
+        return Err(Refusal::NameTaken);
     }
-    if bad_slot {
-        return Answer::Refused(Refusal::BadSlot);
+    if is_bad_slot(slot) {
+        return Err(Refusal::BadSlot);
     }
-    if bad_count {
-        return Answer::Refused(Refusal::BadParents);
+    if is_bad_count(parents.len()) {
+        return Err(Refusal::BadParents);
     }
     known_book_parents::book_parents(w, name, slot, parents)
 }

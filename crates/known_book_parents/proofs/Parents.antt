@@ -1,5 +1,6 @@
 -- The parents looked up one after another: where none is unknown, their numbers are those of the booking.
-use mathlib.Core.Path.{◌≡◌, refl, ap, ◌∙◌}
+use Rattle.std.specs.Prelude.{Ok, Err, is_err}
+use mathlib.Core.Path.{◌≡◌, refl, sym, ap, ◌∙◌}
 use mathlib.Core.Bool.{Bool, true, false, cond}
 use mathlib.Core.List.{List, [], ◌∷◌}
 use Prim.Native.Nat.{ℕ, ◌≤◌}
@@ -8,14 +9,13 @@ use lib.ListN.{length, replicate}
 use borrow.Author.Tests.{ltb-false}
 use Rattle.loops.specs.Turns.{up_to}
 use Rattle.loops.proofs.Search.{first_le}
-use Rattle.terms.specs.declared.answer.Answer.{Answer}
-use Rattle.terms.specs.declared.answer.Answer.TheVariants.{Refused}
+use Rattle.terms.specs.declared.answer.Refusal.{Refusal}
 use Rattle.terms.specs.declared.answer.Refusal.TheVariants.{UnknownParent}
 use Rattle.rules.specs.Layout.{most_parents, none}
-use Rattle.terms.specs.Answers.{done}
+use Rattle.terms.specs.Answers.{Tested}
 use Rattle.rules.specs.Book.{is_absent, parent_found, has_unknown}
 use Rattle.rules.specs.Book.{parent_numbers}
-use Rattle.known_book_parents.specs.Parents.{first_unknown, with_numbers, Looked, is_refusal}
+use Rattle.known_book_parents.specs.Parents.{first_unknown, with_numbers, Looked}
 
 -- four unused places, filled from the first on
 pub with_numbers_all : (w parents : List ℕ) → length parents ≤ most_parents → with_numbers w parents (length parents) (replicate most_parents none) ≡ parent_numbers w parents
@@ -34,13 +34,30 @@ first_unknown_none w parents e =
 
 -- ---- what the answer says of the test
 
-refusal_first : (b : Bool) → is_refusal (cond b (Refused UnknownParent) done) ≡ b
-refusal_first true = refl
-refusal_first false = refl
+abbrev stopped : Bool → Tested
+stopped b = cond b (Err UnknownParent) (Ok tt)
 
-module _ {w parents numbers : List ℕ} {r : Answer} {numbers' : List ℕ} (l : Looked w parents numbers r numbers') where
-  pub looked_refusal : is_refusal r ≡ has_unknown w parents
-  looked_refusal = ap is_refusal l.answer ∙ refusal_first (has_unknown w parents)
+stopped_by : (b : Bool) → is_err (stopped b) ≡ b
+stopped_by true = refl
+stopped_by false = refl
 
-  pub looked_unknown : has_unknown w parents ≡ true → r ≡ Refused UnknownParent
-  looked_unknown u = l.answer ∙ rw u
+abbrev reason : Tested → Refusal
+reason (Ok u) = UnknownParent
+reason (Err r) = r
+
+reason_stopped : (b : Bool) → reason (stopped b) ≡ UnknownParent
+reason_stopped true = refl
+reason_stopped false = refl
+
+module _ {w parents numbers : List ℕ} {r : Tested} {numbers' : List ℕ} (l : Looked w parents numbers r numbers') where
+  looked_test : is_err r ≡ has_unknown w parents
+  looked_test = ap is_err l.answer ∙ stopped_by (has_unknown w parents)
+
+  pub looked_known : r ≡ Ok tt → has_unknown w parents ≡ false
+  looked_known e = sym looked_test ∙ ap is_err e
+
+  pub looked_unknown : {x : Refusal} → r ≡ Err x → has_unknown w parents ≡ true
+  looked_unknown e = sym looked_test ∙ ap is_err e
+
+  pub looked_reason : {x : Refusal} → r ≡ Err x → x ≡ UnknownParent
+  looked_reason e = ap reason (sym e ∙ l.answer) ∙ reason_stopped (has_unknown w parents)

@@ -9,6 +9,7 @@ ghost use Rattle.rules.specs.Sound.{Ledger};
 ghost use Rattle.name_index.specs.Index.{cells};
 ghost use Rattle.name_index.specs.Calls.{index_find_call};
 
+use terms::answer;
 use terms::answer::Reading;
 
 // By an index.
@@ -17,9 +18,9 @@ pub extern "C" fn filz_known_find(ws: &[u16], index: &[u16], name: u64, value: &
     requires { Ledger ws.now × (length index.now ≡ cells) }
     ensures { (result ≡ number (index_find_call ws.now index.now name)) × (value.new ≡ value_of (index_find_call ws.now index.now name)) }
 {
-    let answer = known_index::find(ws, index, name);
-    *value = answer.value();
-    answer.number()
+    let told = known_index::find(ws, index, name);
+    *value = answer::value(told);
+    answer::number(told)
 }
 
 // By the plain search, for one word of the booking.
@@ -28,7 +29,7 @@ pub extern "C" fn filz_known_confidence(ws: &[u16], name: u64, value: &mut i64) 
     requires { Ledger ws.now }
     ensures { (result ≡ number (confidence_call ws.now name)) × (value.new ≡ value_of (confidence_call ws.now name)) }
 {
-    let answer = known_read::ask(ws, name, Reading::Confidence);
-    *value = answer.value();
-    answer.number()
+    let told = known_read::ask(ws, name, Reading::Confidence);
+    *value = answer::value(told);
+    answer::number(told)
 }

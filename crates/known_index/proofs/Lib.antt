@@ -1,3 +1,2 @@
 -- Laws of the cells that are written. They assume nothing.
-pub mod Cleared
 pub mod Entered

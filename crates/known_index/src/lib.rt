@@ -10,16 +10,14 @@ ghost use Rattle.name_index.specs.Index.{cells, is_full, with_number, empty_inde
 ghost use Rattle.name_index.specs.Calls.{index_build_call, index_enter_call, index_find_call};
 
 use name_index::cells;
-use terms::answer::{Answer, Found, Refusal};
+use terms::answer::{Answer, Refusal};
 
 // Every cell becomes empty, whatever it held.
 fn clear(index: &mut [u16])
     requires { length index.old ≡ cells }
     ensures { index.new ≡ empty_index }
 {
-    for c in 0..cells::CELLS {
-        index[c] = cells::EMPTY;
-    }
+    index.fill(cells::EMPTY);
 }
 
 // Booking i's number into the first empty cell from its name's home on. If no cell is empty, nothing is written and the answer is no.
@@ -28,10 +26,9 @@ fn put_number(w: &[u16], index: &mut [u16], i: usize) -> bool
     ensures { (result ≡ not (is_full index.old)) × (index.new ≡ with_number w.now i index.old) }
 {
     let h = name_hash::home(words::name(w, i));
-    let c = name_probe::free_cell(index, h);
-    if c == cells::CELLS {
+    let Some(c) = name_probe::free_cell(index, h) else {
         return false;
-    }
+    };
     index[c] = i as u16;
     true
 }
@@ -46,7 +43,7 @@ pub fn build(w: &[u16], index: &mut [u16]) -> Answer
     for i in 0..n {
         put_number(w, index, i);
     }
-    Answer::Taken(0)
+    Ok(0)
 }
 
 // The newest booking's number, or refusal 27. Names are not looked at: who is entered twice is there twice.
@@ -56,9 +53,9 @@ pub fn enter(w: &[u16], index: &mut [u16]) -> Answer
 {
     let newest = booking_reads::booking::how_many(w) - 1;
     if put_number(w, index, newest) {
-        Answer::Taken(0)
+        Ok(0)
     } else {
-        Answer::Refused(Refusal::IndexFull)
+        Err(Refusal::IndexFull)
     }
 }
 
@@ -67,8 +64,8 @@ pub fn find(w: &[u16], index: &[u16], name: u64) -> Answer
     requires { Ledger w.now × (length index.now ≡ cells) }
     ensures { result ≡ index_find_call w.now index.now name }
 {
-    let Found::At(i) = name_probe::find(w, index, name) else {
-        return Answer::Refused(Refusal::UnknownName);
+    let Some(i) = name_probe::find(w, index, name) else {
+        return Err(Refusal::UnknownName);
     };
-    Answer::Taken(i as i64)
+    Ok(i as i64)
 }

@@ -9,7 +9,7 @@ ghost use Rattle.rules.specs.Poll.{is_success, polled};
 ghost use Rattle.rules.specs.Calls.{is_polled, is_miscounted, poll_call};
 
 use rules::layout;
-use terms::answer::{Answer, Found, Refusal};
+use terms::answer::{Answer, Refusal};
 use terms::vote;
 use terms::vote::State;
 use votes;
@@ -52,26 +52,23 @@ fn is_miscounted(w: &[u16], count: usize) -> bool
     count != words::wide(words::header(w, layout::K))
 }
 
-// What refusals 11, 12 and 13 ask is asked of the booking found; then the first that applies is given, or the poll is written.
+// Refusals 10, 11, 12 and 13 in their order, the last three of the booking found; or the poll is written.
 pub fn poll(w: &mut [u16], name: u64, votes: &[u8]) -> Answer
     requires { Ledger w.old }
     ensures { outcome result w.new ≡ poll_call w.old name votes.now }
 {
-    let Found::At(i) = booking_reads::booking::find(w, name) else {
-        return Answer::Refused(Refusal::UnknownName);
+    let Some(i) = booking_reads::booking::find(w, name) else {
+        return Err(Refusal::UnknownName);
     };
-    let polled = is_polled(w, i);
-    let miscounted = is_miscounted(w, votes.len());
-    let bad_vote = votes::has_refused(votes);
-    if polled {
-        return Answer::Refused(Refusal::NotWaiting);
+    if is_polled(w, i) {
+        return Err(Refusal::NotWaiting);
     }
-    if miscounted {
-        return Answer::Refused(Refusal::WrongVotes);
+    if is_miscounted(w, votes.len()) {
+        return Err(Refusal::WrongVotes);
     }
-    if bad_vote {
-        return Answer::Refused(Refusal::BadVote);
+    if votes::has_refused(votes) {
+        return Err(Refusal::BadVote);
     }
     write_poll(w, i, votes);
-    Answer::Taken(0)
+    Ok(0)
 }

@@ -1,5 +1,6 @@
 -- On a ledger the call is refused where the file has no room; else the three sections, each in what remains behind the one before it, are the first form, and the
 -- marks in what remains behind it make the second.
+use Rattle.std.specs.Prelude.{Err, Ok}
 use mathlib.Core.Path.{◌≡◌, sym, ap, ap₂, ◌∙◌}
 use mathlib.Core.List.{List, ◌++◌}
 use Prim.Native.Nat.{ℕ, ◌+◌, ◌*◌, ◌-◌, ◌<◌, ◌≤◌}
@@ -11,7 +12,6 @@ use lib.Seq.{sets, sets-eq}
 use borrow.Author.Tests.{lt-ltb, le-ltb}
 use Rattle.loops.specs.Fill.{from}
 use Rattle.loops.specs.Total.{total}
-use Rattle.terms.specs.declared.answer.Answer.TheVariants.{Taken, Refused}
 use Rattle.terms.specs.declared.answer.Refusal.TheVariants.{ShortBuffer}
 use Rattle.terms.specs.declared.form.Form.{Form}
 use Rattle.terms.specs.declared.form.Form.TheVariants.{Second}
@@ -66,11 +66,11 @@ module _ (w : List ℕ) where
       )
 
   module _ (form : Form) (out : List ℕ) (ledger : Ledger w) where
-    pub short : length out < length (file_of form w) → handover (Refused ShortBuffer) w out ≡ write_file_call form w out
+    pub short : length out < length (file_of form w) → handover (Err ShortBuffer) w out ≡ write_file_call form w out
     unfolding write_file_call
     short h = rw (tested_known w ledger, lt-ltb (length out) (length (file_of form w)) h)
 
-    pub taken : length (file_of form w) ≤ length out → handover (Taken (pos (length (file_of form w)))) w (laid (file_of form w) out) ≡ write_file_call form w out
+    pub taken : length (file_of form w) ≤ length out → handover (Ok (pos (length (file_of form w)))) w (laid (file_of form w) out) ≡ write_file_call form w out
     unfolding write_file_call
     taken room = rw (tested_known w ledger, le-ltb (length out) (length (file_of form w)) room)
 

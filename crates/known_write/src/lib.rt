@@ -27,10 +27,10 @@ pub fn write_first(w: &[u16], out: &mut [u8]) -> Answer
 {
     let length = day_sections::file_length(w);
     if out.len() < length {
-        return Answer::Refused(Refusal::ShortBuffer);
+        return Err(Refusal::ShortBuffer);
     }
     put_day(w, out);
-    Answer::Taken(length as i64)
+    Ok(length as i64)
 }
 
 // The marks stand behind the first form.
@@ -41,13 +41,14 @@ pub fn write_second(w: &[u16], out: &mut [u8]) -> Answer
     let day = day_sections::file_length(w);
     let length = day + (2 + 2 * day_sections::mark_count(w));
     if out.len() < length {
-        return Answer::Refused(Refusal::ShortBuffer);
+        return Err(Refusal::ShortBuffer);
     }
     put_day(w, out);
     day_sections::put_marks(w, &mut out[day..]);
-    Answer::Taken(length as i64)
+    Ok(length as i64)
 }
 
+// Each form has its own function, so a match and no table.
 pub fn write(w: &[u16], form: Form, out: &mut [u8]) -> Answer
     requires { Ledger w.now }
     ensures { handover result w.now out.new ≡ write_file_call form w.now out.old }

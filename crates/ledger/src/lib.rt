@@ -12,7 +12,7 @@ ghost use Rattle.day_file.specs.Calls.{write_file_call, read_file_call};
 pub use day_move::move_file;
 pub use ledger_reads::{accepted, confidence, lead, query, size};
 use rules::layout;
-use terms::answer::{Answer, Refusal, Tested};
+use terms::answer::{Answer, Refusal};
 use terms::form::Form;
 use terms::setting::Setting;
 
@@ -21,13 +21,13 @@ pub fn open(w: &mut [u16], s: Setting) -> Answer
     ensures { outcome result w.new ≡ open_call w.old s }
 {
     if w.len() != layout::SIZE {
-        return Answer::Refused(Refusal::WrongLength);
+        return Err(Refusal::WrongLength);
     }
     if s.is_good() {
         open_writes::write_open(w, s);
-        Answer::Taken(0)
+        Ok(0)
     } else {
-        Answer::Refused(Refusal::BadSetting)
+        Err(Refusal::BadSetting)
     }
 }
 
@@ -35,30 +35,24 @@ pub fn open(w: &mut [u16], s: Setting) -> Answer
 pub fn book(w: &mut [u16], name: u64, slot: u16, parents: &[u64]) -> Answer
     ensures { outcome result w.new ≡ book_call w.old name slot parents.now }
 {
-    match ledger_test::test(w) {
-        Tested::Stop(refusal) => Answer::Refused(refusal),
-        Tested::Fine => known_book::book(w, name, slot, parents),
-    }
+    ledger_test::test(w)?;
+    known_book::book(w, name, slot, parents)
 }
 
 // A completed poll. Refusals 1, 2, 14, 15, 10, 11, 12, 13.
 pub fn poll(w: &mut [u16], name: u64, votes: &[u8]) -> Answer
     ensures { outcome result w.new ≡ poll_call w.old name votes.now }
 {
-    match ledger_test::test(w) {
-        Tested::Stop(refusal) => Answer::Refused(refusal),
-        Tested::Fine => known_poll::poll(w, name, votes),
-    }
+    ledger_test::test(w)?;
+    known_poll::poll(w, name, votes)
 }
 
 // The day file, in the form that is named, to the front of a lent buffer. No word changes. Refusals 1, 2, 14, 15, 16.
 pub fn write_file(w: &[u16], form: Form, out: &mut [u8]) -> Answer
     ensures { handover result w.now out.new ≡ write_file_call form w.now out.old }
 {
-    match ledger_test::test(w) {
-        Tested::Stop(refusal) => Answer::Refused(refusal),
-        Tested::Fine => known_write::write(w, form, out),
-    }
+    ledger_test::test(w)?;
+    known_write::write(w, form, out)
 }
 
 // The ledger that a first-form file carries, into words of the right length. The file is judged before a word is touched.
@@ -67,10 +61,10 @@ fn take_first(w: &mut [u16], file: &[u8]) -> Answer
     ensures { outcome result w.new ≡ read_file_call First w.old file.now }
 {
     if !day_judge::is_good(file) {
-        return Answer::Refused(Refusal::BadFile);
+        return Err(Refusal::BadFile);
     }
     day_replay::replay(w, file);
-    Answer::Taken(0)
+    Ok(0)
 }
 
 // The same of a second-form file: what its first three sections carry, with its marks instead.
@@ -78,21 +72,21 @@ fn take_second(w: &mut [u16], file: &[u8]) -> Answer
     requires { length w.old ≡ size }
     ensures { outcome result w.new ≡ read_file_call Second w.old file.now }
 {
-    let end = day_marks::judge(file);
-    if end == 0 {
-        return Answer::Refused(Refusal::BadFile);
-    }
+    let Some(end) = day_marks::judge(file) else {
+        return Err(Refusal::BadFile);
+    };
     day_replay::replay(w, &file[..end]);
     day_remark::remark(w, &file[end..]);
-    Answer::Taken(0)
+    Ok(0)
 }
 
-// The words become the ledger that a day file, in the form that is named, carries. What they held before is not looked at. Refusals 1, 17.
+// The words become the ledger that a day file, in the form that is named, carries. What they held before is not looked at. Each form has
+// its own function, so a match and no table. Refusals 1, 17.
 pub fn read_file(w: &mut [u16], form: Form, file: &[u8]) -> Answer
     ensures { outcome result w.new ≡ read_file_call form w.old file.now }
 {
     if w.len() != layout::SIZE {
-        return Answer::Refused(Refusal::WrongLength);
+        return Err(Refusal::WrongLength);
     }
     match form {
         Form::First => take_first(w, file),

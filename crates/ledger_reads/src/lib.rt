@@ -4,16 +4,14 @@
 ghost use Rattle.std.specs.Prelude.{◌≡◌};
 ghost use Rattle.rules.specs.Calls.{read_call, query_call, accepted_call, lead_call, confidence_call, size_call};
 
-use terms::answer::{Answer, Reading, Tested};
+use terms::answer::{Answer, Reading};
 
 // A reading by name. Refusals 1, 2, 14, 15, 10, which all five share.
 fn read(w: &[u16], name: u64, what: Reading) -> Answer
     ensures { result ≡ read_call what w.now name }
 {
-    match ledger_test::test(w) {
-        Tested::Stop(refusal) => Answer::Refused(refusal),
-        Tested::Fine => known_read::ask(w, name, what),
-    }
+    ledger_test::test(w)?;
+    known_read::ask(w, name, what)
 }
 
 // 1 exactly if every member of the ancestry is preferred in its slot.

@@ -5,29 +5,26 @@ ghost use Rattle.std.specs.Prelude.{◌≡◌};
 ghost use Rattle.rules.specs.Calls.{test_of, beside_of};
 
 use rules::layout;
-use terms::answer::{Refusal, Tested};
+use terms::answer::Refusal;
 
 // Whether a workspace is a ledger, or which of refusals 1, 2, 14 and 15 stops the call.
-pub fn test(w: &[u16]) -> Tested
+#[tactic(auto, unfolding(rules::specs::Calls::test_of))]
+pub fn test(w: &[u16]) -> Result<(), Refusal>
     ensures { result ≡ test_of w.now }
 {
     if w.len() != layout::SIZE {
-        return Tested::Stop(Refusal::WrongLength);
+        return Err(Refusal::WrongLength);
     }
     sound::damage(w)
 }
 
 // The same where something lent beside the words has to have a length of its own: its refusal comes just after 1.
-pub fn test_beside(w: &[u16], wrong: bool, refusal: Refusal) -> Tested
+#[tactic(auto, unfolding(rules::specs::Calls::test_of, rules::specs::Calls::beside_of))]
+pub fn test_beside(w: &[u16], wrong: bool, refusal: Refusal) -> Result<(), Refusal>
     ensures { result ≡ beside_of wrong refusal w.now }
 {
-    if w.len() == layout::SIZE {
-        if wrong {
-            Tested::Stop(refusal)
-        } else {
-            sound::damage(w)
-        }
-    } else {
-        Tested::Stop(Refusal::WrongLength)
+    if w.len() == layout::SIZE && wrong {
+        return Err(refusal);
     }
+    test(w)
 }

@@ -1,12 +1,12 @@
 -- Laws of a word read digit by digit: a value that is past the limit stays past it, so reading may stop there.
 use mathlib.Core.Path.{◌≡◌, refl, sym, ap, ◌∙◌}
-use mathlib.Core.Bool.{Bool, true, false, not, ◌&&◌, cond, and-false}
-use mathlib.Core.List.{List}
+use mathlib.Core.Bool.{Bool, true, false, not, ◌&&◌, cond, and-false, and-true}
+use mathlib.Core.List.{List, [], ◌∷◌}
 use mathlib.Core.Logic.{◌⊎◌, ⊎_elim, inl, inr}
 use Prim.Native.Nat.{ℕ, zero, suc, ◌+◌, ◌*◌, ◌-◌, ◌%◌, ◌<◌, ◌≤◌}
 use native.Mathlib.Nat.{add-zero}
 use native.Mathlib.Omega.{arith}
-use lib.ListN.{length, get_or, take, drop, get_or-eq_default}
+use lib.ListN.{length, get_or, take, drop}
 use lib.Dec.{eqb, leb}
 use borrow.Author.Tests.{eq-eqb, le-leb, lt-leb, leb-true, leb-false}
 use Rattle.loops.specs.Search.{all}
@@ -14,10 +14,9 @@ use Rattle.loops.proofs.Bools.{and_right}
 use Rattle.loops.proofs.Search.{Searched, search_start, search_miss, search_over, all_fails}
 use Rattle.loops.proofs.Turns.{up_to_zero, up_to_more}
 use Rattle.text_bytes.specs.Bytes.{digit, minus}
-use Rattle.line_number.specs.declared.Number.{Number}
-use Rattle.line_number.specs.declared.Number.TheVariants.{Value, Bad}
+use Rattle.std.proofs.Common.{Option, Some, None}
+use Rattle.std.specs.Cmp.Lexicographic.{pointwise}
 use Rattle.line_number.specs.Numbers.{digits_most, is_digit, value_of, is_number, number_read, more_of, vote_most, minus_most, negated_of, vote_read}
-use Rattle.line_number.proofs.Parts.{rest_lent}
 
 -- ---- a digit more
 
@@ -32,18 +31,18 @@ module _ (most v b : ℕ) where
     pub value : u ≡ next
     pub within : u ≤ most
 
-  pub more_taken : (u : ℕ) → more_of most v b ≡ Value u → Taken u
+  pub more_taken : (u : ℕ) → more_of most v b ≡ Some u → Taken u
   more_taken u e = go (is_digit b) (leb next most) refl refl e
     where
-      go : (d l : Bool) → is_digit b ≡ d → leb next most ≡ l → cond (d && l) (Value next) Bad ≡ Value u → Taken u
+      go : (d l : Bool) → is_digit b ≡ d → leb next most ≡ l → cond (d && l) (Some next) None ≡ Some u → Taken u
       go true true p q e = let h : next ≡ u = cc in record { is_one = p; value = sym h; within = omega (arith, leb-true next most q) }
       go true false p q e = absurd (let z : ◌≡◌ {A = ℕ} 0 1 = cc in omega arith)
       go false l p q e = absurd (let z : ◌≡◌ {A = ℕ} 0 1 = cc in omega arith)
 
-  pub more_refused : more_of most v b ≡ Bad → (is_digit b ≡ false) ⊎ (most < next)
+  pub more_refused : more_of most v b ≡ None → (is_digit b ≡ false) ⊎ (most < next)
   more_refused e = go (is_digit b) (leb next most) refl refl e
     where
-      go : (d l : Bool) → is_digit b ≡ d → leb next most ≡ l → cond (d && l) (Value next) Bad ≡ Bad → (is_digit b ≡ false) ⊎ (most < next)
+      go : (d l : Bool) → is_digit b ≡ d → leb next most ≡ l → cond (d && l) (Some next) None ≡ None → (is_digit b ≡ false) ⊎ (most < next)
       go true true p q e = absurd (let z : ◌≡◌ {A = ℕ} 0 1 = cc in omega arith)
       go true false p q e = inr (leb-false next most q)
       go false l p q e = inl p
@@ -76,7 +75,7 @@ pub read_start : (most : ℕ) (word : List ℕ) → Read most word 0 0
 read_start most word = record { so_far = sym (value_of_zero word); within = omega arith; digits = search_start _ _ }
 
 module _ {most : ℕ} {word : List ℕ} {i value : ℕ} (r : Read most word i value) where
-  pub read_more : (u : ℕ) → i < length word → more_of most value (get_or word i 0) ≡ Value u → Read most word (i + 1) u
+  pub read_more : (u : ℕ) → i < length word → more_of most value (get_or word i 0) ≡ Some u → Read most word (i + 1) u
   read_more u h e =
       let t = more_taken most value (get_or word i 0) u e in
       record {
@@ -92,7 +91,7 @@ module _ {most : ℕ} {word : List ℕ} {i value : ℕ} (r : Read most word i va
       let g : value_of word (i + 1) ≤ value_of word (length word) = rw (← e) (value_of_grows word (i + 1) (length word - (i + 1))) in
       omega (arith, value_of_more word i, r.so_far)
 
-  pub read_refused : i < length word → more_of most value (get_or word i 0) ≡ Bad → number_read most word ≡ Bad
+  pub read_refused : i < length word → more_of most value (get_or word i 0) ≡ None → number_read most word ≡ None
   unfolding number_read is_number
   read_refused h e =
       ⊎_elim
@@ -100,7 +99,7 @@ module _ {most : ℕ} {word : List ℕ} {i value : ℕ} (r : Read most word i va
       (λ (q : most < next most value (get_or word i 0)). simp (lt-leb (value_of word (length word)) most (past h q), and-false))
       (more_refused most value (get_or word i 0) e)
 
-  pub read_over : i ≡ length word → 1 ≤ length word → length word ≤ digits_most → number_read most word ≡ Value value
+  pub read_over : i ≡ length word → 1 ≤ length word → length word ≤ digits_most → number_read most word ≡ Some value
   unfolding number_read is_number
   read_over e l m =
       let digits : all (λ j. is_digit (get_or word j 0)) (length word) ≡ true = eq-eqb _ _ (search_over _ _ _ r.digits (omega arith) ∙ e) in
@@ -109,41 +108,38 @@ module _ {most : ℕ} {word : List ℕ} {i value : ℕ} (r : Read most word i va
 
 -- ---- words that are too short or too long
 
-pub number_none : (most : ℕ) (word : List ℕ) → length word < 1 → number_read most word ≡ Bad
+pub number_none : (most : ℕ) (word : List ℕ) → length word < 1 → number_read most word ≡ None
 unfolding number_read is_number
 number_none most word h = simp (lt-leb 1 (length word) h)
 
-pub number_long : (most : ℕ) (word : List ℕ) → digits_most < length word → number_read most word ≡ Bad
+pub number_long : (most : ℕ) (word : List ℕ) → digits_most < length word → number_read most word ≡ None
 unfolding number_read is_number
 number_long most word h = simp (lt-leb (length word) digits_most h, and-false)
 
-pub vote_none : (word : List ℕ) → length word < 1 → vote_read word ≡ Bad
-unfolding vote_read
-vote_none word h = simp (get_or-eq_default word 0 {n = 0} (omega arith)) (number_none vote_most word h)
+-- ---- the sign of a vote
 
--- a vote with a minus sign, as the code reads it: the number after the sign, negated
-pub vote_minus : (word : List ℕ) (n : Number) → get_or word 0 0 ≡ minus → n ≡ number_read minus_most (take (length word - 1) (drop 1 word)) → negated_of n ≡ vote_read word
+-- whether a word begins with it
+signed_is : (word : List ℕ) → pointwise eqb (take 1 word) (minus ∷ []) ≡ eqb (get_or word 0 0) minus
+signed_is [] = refl
+signed_is (b ∷ word) = and-true (eqb b minus)
+
+pub vote_minus : (word rest : List ℕ) (n : Option ℕ) → pointwise eqb (take 1 word) (minus ∷ []) ≡ true → rest ≡ drop 1 word
+    → n ≡ number_read minus_most rest → negated_of n ≡ vote_read word
 unfolding vote_read
-vote_minus word n e q = rw (eq-eqb (get_or word 0 0) minus e) (ap negated_of (q ∙ ap (number_read minus_most) (rest_lent 1 word)))
+vote_minus word rest n e r q = rw (sym (signed_is word) ∙ e) (ap negated_of (q ∙ ap (number_read minus_most) r))
+
+pub vote_plain : (word : List ℕ) → pointwise eqb (take 1 word) (minus ∷ []) ≡ false → number_read vote_most word ≡ vote_read word
+unfolding vote_read
+vote_plain word e = rw (sym (signed_is word) ∙ e)
 
 -- ---- bounds
 
-pub number_le : (most : ℕ) (word : List ℕ) (v : ℕ) → number_read most word ≡ Value v → v ≤ most
+pub number_le : (most : ℕ) (word : List ℕ) (v : ℕ) → number_read most word ≡ Some v → v ≤ most
 unfolding number_read is_number
 number_le most word v e = go (is_number most word) refl e
   where
-    go : (t : Bool) → is_number most word ≡ t → cond t (Value (value_of word (length word))) Bad ≡ Value v → v ≤ most
+    go : (t : Bool) → is_number most word ≡ t → cond t (Some (value_of word (length word))) None ≡ Some v → v ≤ most
     go true q e =
         let h : value_of word (length word) ≡ v = cc in
         omega (arith, leb-true (value_of word (length word)) most (and_right (leb 1 (length word) && leb (length word) digits_most && all (λ i. is_digit (get_or word i 0)) (length word)) (leb (value_of word (length word)) most) q))
     go false q e = absurd (let z : ◌≡◌ {A = ℕ} 0 1 = cc in omega arith)
-
--- a vote is a byte
-pub vote_lt : (word : List ℕ) (v : ℕ) → vote_read word ≡ Value v → v < 256
-unfolding vote_read
-vote_lt word v e = go (eqb (get_or word 0 0) minus) (number_read minus_most (drop 1 word)) e
-  where
-    go : (t : Bool) (n : Number) → cond t (negated_of n) (number_read vote_most word) ≡ Value v → v < 256
-    go true (Value u) e = let h : (256 - u % 256) % 256 ≡ v = cc in omega arith
-    go true Bad e = absurd (let z : ◌≡◌ {A = ℕ} 0 1 = cc in omega arith)
-    go false n e = omega (arith, number_le vote_most word v e)

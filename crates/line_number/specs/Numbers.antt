@@ -1,10 +1,8 @@
 -- Document 01, "The text program": a word as a number or as a vote.
-use Rattle.std.specs.Prelude.{ℕ, ◌+◌, ◌*◌, ◌-◌, ◌%◌, ◌^◌, Bool, ◌&&◌, cond, List, length, get_or, drop, eqb, leb}
+use Rattle.std.specs.Prelude.{ℕ, ◌+◌, ◌*◌, ◌-◌, ◌%◌, ◌^◌, Bool, ◌&&◌, cond, List, Option, Some, None, length, get_or, drop, eqb, leb}
 use Rattle.loops.specs.Search.{all}
 use Rattle.loops.specs.Turns.{up_to}
 use Rattle.text_bytes.specs.Bytes.{minus, digit}
-use Rattle.line_number.specs.declared.Number.{Number}
-use Rattle.line_number.specs.declared.Number.TheVariants.{Value, Bad}
 
 -- ---- limits
 
@@ -41,26 +39,26 @@ is_number most word =
     && all (λ i. is_digit (get_or word i 0)) (length word)
     && leb (value_of word (length word)) most
 
-unfoldable pub number_read : ℕ → List ℕ → Number
-number_read most word = cond (is_number most word) (Value (value_of word (length word))) Bad
+unfoldable pub number_read : ℕ → List ℕ → Option ℕ
+number_read most word = cond (is_number most word) (Some (value_of word (length word))) None
 
 -- the value with one digit more, as it is read
-abbrev pub more_of : ℕ → ℕ → ℕ → Number
-more_of most v b = cond (is_digit b && leb (v * 10 + (b - digit 0)) most) (Value (v * 10 + (b - digit 0))) Bad
+abbrev pub more_of : ℕ → ℕ → ℕ → Option ℕ
+more_of most v b = cond (is_digit b && leb (v * 10 + (b - digit 0)) most) (Some (v * 10 + (b - digit 0))) None
 
-abbrev pub name_read : List ℕ → Number
+abbrev pub name_read : List ℕ → Option ℕ
 name_read = number_read name_most
 
-abbrev pub short_read : List ℕ → Number
+abbrev pub short_read : List ℕ → Option ℕ
 short_read = number_read short_most
 
 -- ---- votes
 
 -- the byte of a number below zero, given without its sign: two's complement, and 0 stays 0
-abbrev pub negated_of : Number → Number
-negated_of (Value v) = Value ((256 - v % 256) % 256)
-negated_of Bad = Bad
+abbrev pub negated_of : Option ℕ → Option ℕ
+negated_of (Some v) = Some ((256 - v % 256) % 256)
+negated_of None = None
 
 -- from -128 to 127, as its byte; only a vote may have a minus sign, which is none of the digits
-unfoldable pub vote_read : List ℕ → Number
+unfoldable pub vote_read : List ℕ → Option ℕ
 vote_read word = cond (eqb (get_or word 0 0) minus) (negated_of (number_read minus_most (drop 1 word))) (number_read vote_most word)

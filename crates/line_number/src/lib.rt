@@ -4,13 +4,6 @@
 ghost use Rattle.std.specs.Prelude.{◌≡◌, ◌≤◌};
 ghost use Rattle.line_number.specs.Numbers.{more_of, number_read, vote_read};
 
-// What a word is worth, or that it is no such number.
-#[derive(Drop)]
-pub enum Number {
-    Value(u64),
-    Bad,
-}
-
 // The most digits of a number.
 const DIGITS_MOST: usize = 20;
 
@@ -19,57 +12,41 @@ const VOTE_MOST: u64 = 127;
 
 const MINUS_MOST: u64 = 128;
 
-// The value with one digit more. It is compared before it is multiplied, so it never wraps.
-fn more(value: u64, byte: u8, most: u64) -> Number
+// The value with one digit more, where the byte is a digit and the value stays within the limit.
+fn more(value: u64, byte: u8, most: u64) -> Option<u64>
     requires { (value ≤ most) × (9 ≤ most) }
     ensures { result ≡ more_of most value byte }
 {
-    if byte < b'0' {
-        return Number::Bad;
+    if !byte.is_ascii_digit() {
+        return None;
     }
-    if b'9' < byte {
-        return Number::Bad;
-    }
-    let d = (byte - b'0') as u64;
-    if (most - d) / 10 < value {
-        return Number::Bad;
-    }
-    Number::Value(value * 10 + d)
+    let next = value.checked_mul(10)?.checked_add(u64::from(byte - b'0'))?;
+    if next <= most { Some(next) } else { None }
 }
 
 // One to twenty digits, and a value within the limit.
-pub fn read_number(word: &[u8], most: u64) -> Number
+pub fn read_number(word: &[u8], most: u64) -> Option<u64>
     requires { 9 ≤ most }
     ensures { result ≡ number_read most word.now }
 {
-    if word.len() < 1 {
-        return Number::Bad;
+    if word.is_empty() || DIGITS_MOST < word.len() {
+        return None;
     }
-    if DIGITS_MOST < word.len() {
-        return Number::Bad;
+    let mut value = 0;
+    for byte in word {
+        value = more(value, *byte, most)?;
     }
-    let mut value: u64 = 0;
-    for i in 0..word.len() {
-        let Number::Value(v) = more(value, word[i], most) else {
-            return Number::Bad;
-        };
-        value = v;
-    }
-    Number::Value(value)
+    Some(value)
 }
 
 // From -128 to 127, as its byte: two's complement below zero, and -0 is 0.
-pub fn read_vote(word: &[u8]) -> Number
+pub fn read_vote(word: &[u8]) -> Option<u8>
     ensures { result ≡ vote_read word.now }
 {
-    if word.len() < 1 {
-        return Number::Bad;
-    }
-    if word[0] == b'-' {
-        let Number::Value(v) = read_number(&word[1..], MINUS_MOST) else {
-            return Number::Bad;
-        };
-        return Number::Value((256 - v % 256) % 256);
-    }
-    read_number(word, VOTE_MOST)
+    let Some(digits) = word.strip_prefix(b"-") else {
+        let size = read_number(word, VOTE_MOST)?;
+        return Some(size as u8);
+    };
+    let size = read_number(digits, MINUS_MOST)?;
+    Some((size as u8).wrapping_neg())
 }

@@ -6,12 +6,9 @@ use native.Mathlib.Decide.{dec_lt}
 use native.Mathlib.Omega.{arith}
 use lib.ListN.{length}
 use lib.Seq.{sets}
-use Rattle.line_number.specs.declared.Number.{Number}
-use Rattle.line_scan.specs.declared.step.Step.TheVariants.{Next, Stop}
+use Rattle.std.proofs.Common.{Option, Some, None}
 use Rattle.line_words.specs.Words.{words_after}
 use Rattle.line_scan.specs.Steps.{step_of}
-use Rattle.line_scan.specs.declared.many.Many.{Many}
-use Rattle.line_parse.specs.declared.command.Command.TheVariants.{Bad}
 use Rattle.line_number.specs.Numbers.{name_read, vote_read}
 use Rattle.line_scan.specs.Lists.{parents_most, votes_most, Listed}
 use Rattle.line_parse.specs.Line.{
@@ -29,9 +26,9 @@ use Rattle.line_parse.specs.Line.{
 use Rattle.line_scan.proofs.Split.{words_after_next, words_after_end}
 use Rattle.line_scan.proofs.Walk.{Stepped, step_none, step_next, step_stop}
 
-module _ (reader : List ℕ → Number) (line : List ℕ) (at : ℕ) where
+module _ (reader : List ℕ → Option ℕ) (line : List ℕ) (at : ℕ) where
   -- a step is made only where there is a word
-  pub stepped : (v e : ℕ) → step_of reader line at ≡ Next v e → Stepped reader line at v e
+  pub stepped : (v e : ℕ) → step_of reader line at ≡ Some (v, e) → Stepped reader line at v e
   stepped v e q = go (dec_lt at (length line))
     where
       go : Dec (at < length line) → Stepped reader line at v e
@@ -40,11 +37,11 @@ module _ (reader : List ℕ → Number) (line : List ℕ) (at : ℕ) where
           let none = step_none reader line at (omega arith) in
           absurd (let z : ◌≡◌ {A = ℕ} 0 1 = cc in omega arith)
 
-  pub number_next : {A : Type 0} (bad : A) (rest : ℕ → List (List ℕ) → A) (v e : ℕ) → step_of reader line at ≡ Next v e
+  pub number_next : {A : Type 0} (bad : A) (rest : ℕ → List (List ℕ) → A) (v e : ℕ) → step_of reader line at ≡ Some (v, e)
       → with_number bad reader (words_after line at) rest ≡ rest v (words_after line e)
   number_next bad rest v e q = let s = stepped v e q in rw (s.word, s.value)
 
-  pub number_stop : {A : Type 0} (bad : A) (rest : ℕ → List (List ℕ) → A) → step_of reader line at ≡ Stop
+  pub number_stop : {A : Type 0} (bad : A) (rest : ℕ → List (List ℕ) → A) → step_of reader line at ≡ None
       → with_number bad reader (words_after line at) rest ≡ bad
   number_stop {A} bad rest q = go (dec_lt at (length line))
     where
@@ -62,14 +59,14 @@ module _ (line : List ℕ) (at : ℕ) {A : Type 0} (bad a : A) where
 -- ---- what the buffers then hold
 
 -- a bad line that read no list leaves its buffer
-pub booked_bad : {said : Said} (parents : List ℕ) → said ≡ bare Bad → BookRead said parents Bad parents
+pub booked_bad : {said : Said} (parents : List ℕ) → said ≡ bare None → BookRead said parents None parents
 booked_bad parents e = record { answer = sym (ap (λ s. s.command) e); after = sym (ap (λ s. sets parents 0 s.parents) e) }
 
-pub polled_bad : {said : Said} (votes : List ℕ) → said ≡ bare Bad → PollRead said votes Bad votes
+pub polled_bad : {said : Said} (votes : List ℕ) → said ≡ bare None → PollRead said votes None votes
 polled_bad votes e = record { answer = sym (ap (λ s. s.command) e); after = sym (ap (λ s. sets votes 0 s.votes) e) }
 
 -- a list that was read is the command's, whether or not it made a good line
-pub booked_listed : {said : Said} {parents parents' : List ℕ} {many : Many} (name slot : ℕ) (ws : List (List ℕ)) (m : Many)
+pub booked_listed : {said : Said} {parents parents' : List ℕ} {many : Option ℕ} (name slot : ℕ) (ws : List (List ℕ)) (m : Option ℕ)
     → said ≡ book_words name slot ws → Listed name_read parents_most ws parents many parents' → many ≡ m → BookRead said parents (book_with name slot m) parents'
 booked_listed {said} {parents} name slot ws m e l q =
     record {
@@ -77,7 +74,7 @@ booked_listed {said} {parents} name slot ws m e l q =
       after = l.after ∙ sym (ap (λ s. sets parents 0 s.parents) e);
     }
 
-pub polled_listed : {said : Said} {votes votes' : List ℕ} {many : Many} (name : ℕ) (ws : List (List ℕ)) (m : Many)
+pub polled_listed : {said : Said} {votes votes' : List ℕ} {many : Option ℕ} (name : ℕ) (ws : List (List ℕ)) (m : Option ℕ)
     → said ≡ poll_words name ws → Listed vote_read votes_most ws votes many votes' → many ≡ m → PollRead said votes (poll_with name m) votes'
 polled_listed {said} {votes} name ws m e l q =
     record {

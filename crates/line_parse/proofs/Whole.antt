@@ -4,10 +4,8 @@ use mathlib.Core.List.{List, [], ◌∷◌}
 use Prim.Native.Nat.{ℕ}
 use lib.ListN.{take}
 use lib.Seq.{sets}
-use Rattle.line_number.specs.declared.Number.{Number}
-use Rattle.line_number.specs.declared.Number.TheVariants.{Value, Bad as NoNumber}
+use Rattle.std.proofs.Common.{Option, Some, None}
 use Rattle.line_parse.specs.declared.command.Command.{Command}
-use Rattle.line_parse.specs.declared.command.Command.TheVariants.{Bad}
 use Rattle.line_keyword.specs.declared.Keyword.{Keyword}
 use Rattle.line_words.specs.Words.{word_end, words_after}
 use Rattle.line_keyword.specs.Keywords.{keyword_of}
@@ -23,27 +21,27 @@ line_says_lem line end k e q =
 -- ---- a booking says nothing of votes, a poll nothing of parents
 
 -- what holds of a bad line and of every rest holds of a number and its rest
-pub number_holds : {A : Type 0} (P : A → Type 0) (none : A) (reader : List ℕ → Number) (rest : ℕ → List (List ℕ) → A) → P none
+pub number_holds : {A : Type 0} (P : A → Type 0) (none : A) (reader : List ℕ → Option ℕ) (rest : ℕ → List (List ℕ) → A) → P none
     → ((v : ℕ) (ws : List (List ℕ)) → P (rest v ws)) → (ws : List (List ℕ)) → P (with_number none reader ws rest)
 number_holds P none reader rest h each [] = h
 number_holds P none reader rest h each (w ∷ ws) = go (reader w)
   where
-    go : (n : Number) → P (valued none n (λ v. rest v ws))
-    go (Value v) = each v ws
-    go NoNumber = h
+    go : (n : Option ℕ) → P (valued none n (λ v. rest v ws))
+    go (Some v) = each v ws
+    go None = h
 
 book_votes : (ws : List (List ℕ)) → (book_says ws).votes ≡ []
 unfolding book_says
-book_votes = number_holds (λ s. s.votes ≡ []) (bare Bad) _ _ refl (λ name. number_holds (λ s. s.votes ≡ []) (bare Bad) _ _ refl (λ slot ws. refl))
+book_votes = number_holds (λ s. s.votes ≡ []) (bare None) _ _ refl (λ name. number_holds (λ s. s.votes ≡ []) (bare None) _ _ refl (λ slot ws. refl))
 
 poll_parents : (ws : List (List ℕ)) → (poll_says ws).parents ≡ []
 unfolding poll_says
-poll_parents = number_holds (λ s. s.parents ≡ []) (bare Bad) _ _ refl (λ name ws. refl)
+poll_parents = number_holds (λ s. s.parents ≡ []) (bare None) _ _ refl (λ name ws. refl)
 
 -- ---- what the buffers then hold
 
-module _ {line : List ℕ} (parents votes : List ℕ) {r : Command} where
-  pub parsed_alone : (c : Command) → line_says line ≡ bare c → r ≡ c → Parsed line parents votes r parents votes
+module _ {line : List ℕ} (parents votes : List ℕ) {r : Option Command} where
+  pub parsed_alone : (c : Option Command) → line_says line ≡ bare c → r ≡ c → Parsed line parents votes r parents votes
   parsed_alone c e q =
       record {
         answer = q ∙ sym (ap (λ s. s.command) e);

@@ -1,15 +1,11 @@
 -- Document 01, "The text program", with CR 7 and CR 8: what a line says. The whole line is judged before any call is made.
-use Rattle.std.specs.Prelude.{ℕ, ◌≤◌, ◌≡◌, cond, List, [], ◌∷◌, get_or, ltb}
+use Rattle.std.specs.Prelude.{ℕ, ◌≤◌, ◌≡◌, cond, List, [], ◌∷◌, Option, Some, None, get_or, ltb}
 use Rattle.std.proofs.lemmas.List.Edits.{sets}
 use Rattle.terms.specs.declared.setting.Setting.{Setting}
 use Rattle.terms.specs.Setting.{setting_of}
-use Rattle.line_number.specs.declared.Number.{Number}
-use Rattle.line_number.specs.declared.Number.TheVariants.{Value, Bad as NoNumber}
-use Rattle.line_scan.specs.declared.many.Many.{Many}
-use Rattle.line_scan.specs.declared.many.Many.TheVariants.{Count, Refused}
 use Rattle.terms.specs.declared.answer.Reading.{Reading}
 use Rattle.line_parse.specs.declared.command.Command.{Command}
-use Rattle.line_parse.specs.declared.command.Command.TheVariants.{Open, Book, Poll, Read, List as ListAll, Bad}
+use Rattle.line_parse.specs.declared.command.Command.TheVariants.{Open, Book, Poll, Read, List as ListAll}
 use Rattle.line_keyword.specs.declared.Keyword.{Keyword}
 use Rattle.line_keyword.specs.declared.Keyword.TheVariants.{
   Open as open_word,
@@ -27,11 +23,11 @@ use Rattle.line_scan.specs.Lists.{parents_most, votes_most, leading, many_of}
 -- ---- what is told from the words in turn
 
 -- a word that is a number, and then the rest; `bad` where there is none
-abbrev pub valued : {A : Type 0} → A → Number → (ℕ → A) → A
-valued bad (Value v) rest = rest v
-valued bad NoNumber rest = bad
+abbrev pub valued : {A : Type 0} → A → Option ℕ → (ℕ → A) → A
+valued bad (Some v) rest = rest v
+valued bad None rest = bad
 
-abbrev pub with_number : {A : Type 0} → A → (List ℕ → Number) → List (List ℕ) → (ℕ → List (List ℕ) → A) → A
+abbrev pub with_number : {A : Type 0} → A → (List ℕ → Option ℕ) → List (List ℕ) → (ℕ → List (List ℕ) → A) → A
 with_number bad reader [] rest = bad
 with_number bad reader (w ∷ ws) rest = valued bad (reader w) (λ v. rest v ws)
 
@@ -42,13 +38,13 @@ nothing bad (w ∷ ws) a = bad
 
 -- ---- commands
 
--- a command with the numbers that stand at the start of the two buffers. A bad line may have read some before it turned out bad.
+-- a command, or none where the line is bad, with the numbers that stand at the start of the two buffers. A bad line may have read some before it turned out bad.
 pub record Said : Type 0 where
-  pub command : Command
+  pub command : Option Command
   pub parents : List ℕ
   pub votes : List ℕ
 
-abbrev pub bare : Command → Said
+abbrev pub bare : Option Command → Said
 bare c = record { command = c; parents = []; votes = [] }
 
 -- how many numbers `open` has: four, or the edition behind them
@@ -74,20 +70,20 @@ abbrev pub AllShort : List ℕ → Type 0
 AllShort vs = (i : ℕ) → get_or vs i 0 ≤ short_most
 
 -- four of them or five, no fewer and no more
-abbrev pub open_with : Many → List ℕ → Command
-open_with (Count n) vs = cond (ltb n open_least) Bad (Open (setting_typed vs))
-open_with Refused vs = Bad
+abbrev pub open_with : Option ℕ → List ℕ → Option Command
+open_with (Some n) vs = cond (ltb n open_least) None (Some (Open (setting_typed vs)))
+open_with None vs = None
 
-unfoldable pub open_says : List (List ℕ) → Command
+unfoldable pub open_says : List (List ℕ) → Option Command
 open_says ws = open_with (many_of short_read open_most ws) (leading short_read open_most ws)
 
 -- a name
-unfoldable pub read_says : Reading → List (List ℕ) → Command
-read_says reading ws = with_number Bad name_read ws (λ name ws. nothing Bad ws (Read reading name))
+unfoldable pub read_says : Reading → List (List ℕ) → Option Command
+read_says reading ws = with_number None name_read ws (λ name ws. nothing None ws (Some (Read reading name)))
 
-abbrev pub book_with : ℕ → ℕ → Many → Command
-book_with name slot (Count n) = Book name slot n
-book_with name slot Refused = Bad
+abbrev pub book_with : ℕ → ℕ → Option ℕ → Option Command
+book_with name slot (Some n) = Some (Book name slot n)
+book_with name slot None = None
 
 abbrev pub book_words : ℕ → ℕ → List (List ℕ) → Said
 book_words name slot ws =
@@ -95,11 +91,11 @@ book_words name slot ws =
 
 -- name slot parents
 unfoldable pub book_says : List (List ℕ) → Said
-book_says ws = with_number (bare Bad) name_read ws (λ name ws. with_number (bare Bad) short_read ws (λ slot ws. book_words name slot ws))
+book_says ws = with_number (bare None) name_read ws (λ name ws. with_number (bare None) short_read ws (λ slot ws. book_words name slot ws))
 
-abbrev pub poll_with : ℕ → Many → Command
-poll_with name (Count n) = Poll name n
-poll_with name Refused = Bad
+abbrev pub poll_with : ℕ → Option ℕ → Option Command
+poll_with name (Some n) = Some (Poll name n)
+poll_with name None = None
 
 abbrev pub poll_words : ℕ → List (List ℕ) → Said
 poll_words name ws =
@@ -107,7 +103,7 @@ poll_words name ws =
 
 -- name votes
 unfoldable pub poll_says : List (List ℕ) → Said
-poll_says ws = with_number (bare Bad) name_read ws (λ name ws. poll_words name ws)
+poll_says ws = with_number (bare None) name_read ws (λ name ws. poll_words name ws)
 
 -- ---- the line
 
@@ -116,11 +112,11 @@ keyword_says open_word ws = bare (open_says ws)
 keyword_says book_word ws = book_says ws
 keyword_says poll_word ws = poll_says ws
 keyword_says (read_word reading) ws = bare (read_says reading ws)
-keyword_says list_word ws = bare (nothing Bad ws ListAll)
-keyword_says Unknown ws = bare Bad
+keyword_says list_word ws = bare (nothing None ws (Some ListAll))
+keyword_says Unknown ws = bare None
 
 abbrev pub words_say : List (List ℕ) → Said
-words_say [] = bare Bad
+words_say [] = bare None
 words_say (w ∷ ws) = keyword_says (keyword_of w) ws
 
 unfoldable pub line_says : List ℕ → Said
@@ -128,15 +124,15 @@ line_says line = words_say (words line)
 
 -- ---- what reading a line leaves: the command, and its numbers at the start of the buffers; the rest of each buffer stays
 
-pub record BookRead (said : Said) (parents : List ℕ) (r : Command) (parents' : List ℕ) : Type 0 where
+pub record BookRead (said : Said) (parents : List ℕ) (r : Option Command) (parents' : List ℕ) : Type 0 where
   pub answer : r ≡ said.command
   pub after : parents' ≡ sets parents 0 said.parents
 
-pub record PollRead (said : Said) (votes : List ℕ) (r : Command) (votes' : List ℕ) : Type 0 where
+pub record PollRead (said : Said) (votes : List ℕ) (r : Option Command) (votes' : List ℕ) : Type 0 where
   pub answer : r ≡ said.command
   pub after : votes' ≡ sets votes 0 said.votes
 
-pub record Parsed (line parents votes : List ℕ) (r : Command) (parents' votes' : List ℕ) : Type 0 where
+pub record Parsed (line parents votes : List ℕ) (r : Option Command) (parents' votes' : List ℕ) : Type 0 where
   pub answer : r ≡ (line_says line).command
   pub parents_after : parents' ≡ sets parents 0 (line_says line).parents
   pub votes_after : votes' ≡ sets votes 0 (line_says line).votes

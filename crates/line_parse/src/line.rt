@@ -1,5 +1,5 @@
 // What follows the first word of a line, for each command.
-ghost use Rattle.std.specs.Prelude.{◌≡◌, length, ◌≤◌};
+ghost use Rattle.std.specs.Prelude.{◌≡◌, ◌≤◌, Some, None, length};
 ghost use Rattle.line_words.specs.Words.{words_after};
 ghost use Rattle.line_scan.specs.Lists.{parents_most, votes_most};
 ghost use Rattle.line_parse.specs.Line.{
@@ -15,16 +15,16 @@ ghost use Rattle.line_parse.specs.Line.{
 };
 
 use crate::command::Command;
-use line_scan::many::{Many, read_numbers, read_votes};
-use line_scan::step::{Step, next_number};
+use line_scan::many::{read_numbers, read_votes};
+use line_scan::step::next_number;
 use terms::answer::Reading;
 use terms::setting::Setting;
 
 // The largest name.
-const NAME_MOST: u64 = 18446744073709551615;
+const NAME_MOST: u64 = u64::MAX;
 
 // The largest number of everything but names and votes.
-const SHORT_MOST: u64 = 65535;
+const SHORT_MOST: u64 = u16::MAX as u64;
 
 // The fewest numbers of `open`.
 const OPEN_LEAST: usize = 4;
@@ -37,81 +37,68 @@ fn setting_of(five: &[u64; 5]) -> Setting
     requires { AllShort five.now }
     ensures { result ≡ setting_or 0 five.now }
 {
+    let [k, a, beta1, beta2, edition] = *five;
     Setting {
-        k: five[0] as u16,
-        a: five[1] as u16,
-        beta1: five[2] as u16,
-        beta2: five[3] as u16,
-        edition: five[4] as u16,
+        k: k as u16,
+        a: a as u16,
+        beta1: beta1 as u16,
+        beta2: beta2 as u16,
+        edition: edition as u16,
     }
 }
 
 // k, a, beta1, beta2, and the edition where it is told.
-pub(crate) fn read_open(line: &[u8], at: usize) -> Command
+pub(crate) fn read_open(line: &[u8], at: usize) -> Option<Command>
     requires { at ≤ length line.now }
     ensures { result ≡ open_says (words_after line.now at) }
 {
     let mut five = [0, 0, 0, 0, EDITION_UNTOLD];
-    let Many::Count(count) = read_numbers(line, at, SHORT_MOST, &mut five) else {
-        return Command::Bad;
-    };
+    let count = read_numbers(line, at, SHORT_MOST, &mut five)?;
     if count < OPEN_LEAST {
-        return Command::Bad;
+        return None;
     }
-    Command::Open(setting_of(&five))
+    Some(Command::Open(setting_of(&five)))
 }
 
 // One name.
-pub(crate) fn read_reading(line: &[u8], at: usize, reading: Reading) -> Command
+pub(crate) fn read_reading(line: &[u8], at: usize, reading: Reading) -> Option<Command>
     ensures { result ≡ read_says reading (words_after line.now at) }
 {
-    let Step::Next(name, end) = next_number(line, at, NAME_MOST) else {
-        return Command::Bad;
-    };
+    let (name, end) = next_number(line, at, NAME_MOST)?;
     if end < line.len() {
-        return Command::Bad;
+        return None;
     }
-    Command::Read { reading, name }
+    Some(Command::Read { reading, name })
 }
 
 // A name, a slot and the parents.
-pub(crate) fn read_book(line: &[u8], at: usize, parents: &mut [u64]) -> Command
+pub(crate) fn read_book(line: &[u8], at: usize, parents: &mut [u64]) -> Option<Command>
     requires { length parents.old ≡ parents_most }
     ensures { BookRead (book_says (words_after line.now at)) parents.old result parents.new }
 {
-    let Step::Next(name, after_name) = next_number(line, at, NAME_MOST) else {
-        return Command::Bad;
-    };
-    let Step::Next(slot, after_slot) = next_number(line, after_name, SHORT_MOST) else {
-        return Command::Bad;
-    };
+    let (name, after_name) = next_number(line, at, NAME_MOST)?;
+    let (slot, after_slot) = next_number(line, after_name, SHORT_MOST)?;
     let slot = slot as u16;
-    let Many::Count(count) = read_numbers(line, after_slot, NAME_MOST, parents) else {
-        return Command::Bad;
-    };
-    Command::Book { name, slot, count }
+    let count = read_numbers(line, after_slot, NAME_MOST, parents)?;
+    Some(Command::Book { name, slot, count })
 }
 
 // A name and the votes.
-pub(crate) fn read_poll(line: &[u8], at: usize, votes: &mut [u8]) -> Command
+pub(crate) fn read_poll(line: &[u8], at: usize, votes: &mut [u8]) -> Option<Command>
     requires { length votes.old ≡ votes_most }
     ensures { PollRead (poll_says (words_after line.now at)) votes.old result votes.new }
 {
-    let Step::Next(name, end) = next_number(line, at, NAME_MOST) else {
-        return Command::Bad;
-    };
-    let Many::Count(count) = read_votes(line, end, votes) else {
-        return Command::Bad;
-    };
-    Command::Poll { name, count }
+    let (name, end) = next_number(line, at, NAME_MOST)?;
+    let count = read_votes(line, end, votes)?;
+    Some(Command::Poll { name, count })
 }
 
 // Nothing.
-pub(crate) fn read_list(line: &[u8], at: usize) -> Command
-    ensures { result ≡ nothing Command.Bad (words_after line.now at) Command.List }
+pub(crate) fn read_list(line: &[u8], at: usize) -> Option<Command>
+    ensures { result ≡ nothing None (words_after line.now at) (Some Command.List) }
 {
     if at < line.len() {
-        return Command::Bad;
+        return None;
     }
-    Command::List
+    Some(Command::List)
 }

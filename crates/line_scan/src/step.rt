@@ -1,54 +1,31 @@
 // The next word of a line, read at the place where the word before it ends.
 ghost use Rattle.std.specs.Prelude.{◌≡◌, ◌≤◌, ◌<◌, length};
-ghost use Rattle.line_number.specs.Numbers.{number_read, vote_read};
-ghost use Rattle.line_scan.specs.Steps.{end_after, step_of};
+ghost use Rattle.std.specs.Option.{MatchOption};
+ghost use Rattle.line_number.specs.Numbers.{number_read};
+ghost use Rattle.line_scan.specs.Steps.{end_after, step_of, word_after};
 
-use line_number::{Number, read_number, read_vote};
+use line_number::read_number;
 use line_words::word_end;
 
-// The value of the next word and where it ends, or that there is no word or that it is no number.
-#[derive(Drop)]
-pub enum Step {
-    Next(u64, usize),
-    Stop,
-}
-
-// Where the word ends that follows one which ends at a space.
-fn end_after(line: &[u8], at: usize) -> usize
-    requires { at < length line.now }
-    ensures { (result ≡ end_after line.now at) × (result ≤ length line.now) }
+// The next word and where it ends, where there is one: the word before it ends at a space.
+pub(crate) fn next_word(line: &[u8], at: usize) -> Option<(&[u8], usize)>
+    ensures { MatchOption result
+        (length line.now ≤ at)
+        (λ next. (at < length line.now) × (next.0.now ≡ word_after line.now at) × (next.1 ≡ end_after line.now at) × (next.1 ≤ length line.now)) }
 {
-    let start = at + 1;
-    start + word_end(&line[start..])
+    if line.len() <= at {
+        return None;
+    }
+    let rest = &line[at + 1..];
+    let len = word_end(rest);
+    Some((&rest[..len], at + 1 + len))
 }
 
-// The next word as a number within the limit.
-pub fn next_number(line: &[u8], at: usize, most: u64) -> Step
+// The value of the next word and where it ends, where there is one and it is a number within the limit.
+pub fn next_number(line: &[u8], at: usize, most: u64) -> Option<(u64, usize)>
     requires { 9 ≤ most }
     ensures { result ≡ step_of (number_read most) line.now at }
 {
-    if line.len() <= at {
-        return Step::Stop;
-    }
-    let start = at + 1;
-    let end = end_after(line, at);
-    let Number::Value(value) = read_number(&line[start..end], most) else {
-        return Step::Stop;
-    };
-    Step::Next(value, end)
-}
-
-// The next word as a vote.
-pub(crate) fn next_vote(line: &[u8], at: usize) -> Step
-    ensures { result ≡ step_of vote_read line.now at }
-{
-    if line.len() <= at {
-        return Step::Stop;
-    }
-    let start = at + 1;
-    let end = end_after(line, at);
-    let Number::Value(vote) = read_vote(&line[start..end]) else {
-        return Step::Stop;
-    };
-    Step::Next(vote, end)
+    let (word, end) = next_word(line, at)?;
+    Some((read_number(word, most)?, end))
 }

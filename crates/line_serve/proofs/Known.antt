@@ -1,4 +1,5 @@
 -- What the program keeps is known from one call to the next: only a taken opening changes it. On words that are all zero every call but open gives 2.
+use Rattle.std.specs.Prelude.{Err}
 use mathlib.Core.Path.{◌≡◌, refl, sym, ap, subst, ◌∙◌}
 use mathlib.Core.Bool.{Bool, true, false, true≢false, false≢true}
 use mathlib.Core.List.{List}
@@ -8,10 +9,7 @@ use lib.ListN.{length, replicate, length-replicate}
 use borrow.Author.Tests.{eq-eqb}
 use Rattle.terms.specs.declared.setting.Setting.{Setting}
 use Rattle.terms.specs.declared.answer.Refusal.TheVariants.{DamagedHeader, BadSetting}
-use Rattle.terms.specs.declared.answer.Answer.{Answer}
-use Rattle.terms.specs.declared.answer.Answer.TheVariants.{Refused}
-use Rattle.terms.specs.declared.answer.Tested.TheVariants.{Stop}
-use Rattle.terms.specs.Answers.{outcome, done}
+use Rattle.terms.specs.Answers.{outcome, done, Answer}
 use Rattle.rules.specs.Layout.{size}
 use Rattle.terms.specs.Setting.{is_good}
 use Rattle.rules.specs.IsSound.{header_good}
@@ -45,22 +43,22 @@ keeps_one w true false k l = absurd (zeros_none (subst Ledger l k))
 keeps_one w false true k l = absurd (zeros_none (subst Ledger k l))
 keeps_one w false false k l = refl
 
-zeros_stop : test_of (replicate size 0) ≡ Stop DamagedHeader
+zeros_stop : test_of (replicate size 0) ≡ Err DamagedHeader
 unfolding header_good
 zeros_stop = test_long (replicate size 0) (length-replicate {A = ℕ} size 0) ∙ sym (damage_header (replicate size 0) refl)
 
-pub unopened_stop : (w : List ℕ) (known : Bool) → Keeps known w → known ≡ false → test_of w ≡ Stop DamagedHeader
+pub unopened_stop : (w : List ℕ) (known : Bool) → Keeps known w → known ≡ false → test_of w ≡ Err DamagedHeader
 unopened_stop w known k e = ap test_of (known_zeros w known k e) ∙ zeros_stop
 
 module _ (w : List ℕ) (known : Bool) (k : Keeps known w) (f : known ≡ false) where
-  pub unopened_tested : (rest : Answer) → tested test_of w rest ≡ Refused DamagedHeader
+  pub unopened_tested : (rest : Answer) → tested test_of w rest ≡ Err DamagedHeader
   unopened_tested rest = stop_tested w DamagedHeader rest (unopened_stop w known k f)
 
-  pub unopened_book : (name slot : ℕ) (parents : List ℕ) → book_call w name slot parents ≡ outcome (Refused DamagedHeader) w
+  pub unopened_book : (name slot : ℕ) (parents : List ℕ) → book_call w name slot parents ≡ outcome (Err DamagedHeader) w
   unfolding book_call
   unopened_book name slot parents = stop_leaves w _ DamagedHeader _ (unopened_stop w known k f)
 
-  pub unopened_poll : (name : ℕ) (votes : List ℕ) → poll_call w name votes ≡ outcome (Refused DamagedHeader) w
+  pub unopened_poll : (name : ℕ) (votes : List ℕ) → poll_call w name votes ≡ outcome (Err DamagedHeader) w
   unfolding poll_call
   unopened_poll name votes = stop_leaves w _ DamagedHeader _ (unopened_stop w known k f)
 
@@ -83,7 +81,7 @@ module _ (w : List ℕ) (h : length w ≡ size) where
   unfolding open_call
   open_good s g = simp (eq-eqb (length w) size h, g)
 
-  pub open_bad : (s : Setting) → is_good s ≡ false → open_call w s ≡ outcome (Refused BadSetting) w
+  pub open_bad : (s : Setting) → is_good s ≡ false → open_call w s ≡ outcome (Err BadSetting) w
   unfolding open_call
   open_bad s g = simp (eq-eqb (length w) size h, g)
 

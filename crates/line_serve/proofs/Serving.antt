@@ -1,4 +1,5 @@
 -- A contract met: a call's words and answer, printed, are the effect of its command; a line has the effect of what it says, and what the words are stays known.
+use Rattle.std.specs.Prelude.{Err}
 use mathlib.Core.Path.{◌≡◌, refl, sym, ap, subst, ◌∙◌}
 use mathlib.Core.Bool.{Bool, true, false, ◌||◌}
 use mathlib.Core.List.{List}
@@ -6,13 +7,12 @@ use Prim.Native.Nat.{ℕ, ◌≤◌}
 use native.Mathlib.Omega.{arith}
 use lib.ListN.{length, take, length-replicate}
 use lib.Seq.{sets, length-sets}
+use Rattle.std.proofs.Common.{Option, Some, None}
 use Rattle.terms.specs.declared.setting.Setting.{Setting}
 use Rattle.terms.specs.Setting.{is_good}
-use Rattle.terms.specs.declared.answer.Answer.{Answer}
-use Rattle.terms.specs.declared.answer.Answer.TheVariants.{Refused}
 use Rattle.terms.specs.declared.answer.Refusal.TheVariants.{DamagedHeader}
 use Rattle.terms.specs.declared.answer.Reading.{Reading}
-use Rattle.terms.specs.Answers.{Outcome, outcome, done}
+use Rattle.terms.specs.Answers.{Outcome, outcome, done, Answer}
 use Rattle.rules.specs.Layout.{size}
 use Rattle.rules.specs.Sound.{Ledger}
 use Rattle.rules.specs.Calls.{open_call, read_call}
@@ -21,7 +21,7 @@ use Rattle.rule_laws.proofs.Tested.{tested_known}
 use Rattle.put.specs.Put.{Put}
 use Rattle.text_print.specs.Print.{call_prints, reading_prints}
 use Rattle.line_parse.specs.declared.command.Command.{Command}
-use Rattle.line_parse.specs.declared.command.Command.TheVariants.{Open, Book, Poll, Read, List as ListAll, Bad}
+use Rattle.line_parse.specs.declared.command.Command.TheVariants.{Open, Book, Poll, Read, List as ListAll}
 use Rattle.line_parse.specs.Line.{line_says}
 use Rattle.line_parse.proofs.Counts.{take_stored}
 use Rattle.text_listing.specs.Listed.{list_prints, list_shows}
@@ -60,7 +60,7 @@ module _ {out out' : List ℕ} {at : ℕ} {r : Served} where
       }
 
   -- words that are all zero have no listing
-  pub serves_unlisted : (w : List ℕ) (known : Bool) → Keeps known w → known ≡ false → Put out at (call_prints (Refused DamagedHeader)) r.at out'
+  pub serves_unlisted : (w : List ℕ) (known : Bool) → Keeps known w → known ≡ false → Put out at (call_prints (Err DamagedHeader)) r.at out'
       → Keeps r.known w → Serves (listed w) out at r w out'
   unfolding list_call
   serves_unlisted w known z f p k =
@@ -76,7 +76,7 @@ module _ {out out' : List ℕ} {at : ℕ} {r : Served} where
 
 -- ---- the effect of a line
 
-pub served_does : (w line : List ℕ) (c : Command) → (line_says line).command ≡ c
+pub served_does : (w line : List ℕ) (c : Option Command) → (line_says line).command ≡ c
     → command_does c (line_says line).parents (line_says line).votes w ≡ served w line
 unfolding served
 served_does w line c e = ap (λ x. command_does x (line_says line).parents (line_says line).votes w) (sym e)
@@ -94,13 +94,13 @@ open_kept w s opened h k = go (is_good s) refl
     go true g = subst (λ o. Ledger o.words) (sym (open_good w h s g)) (open_keeps s g)
     go false g = subst (λ o. Keeps opened o.words) (sym (open_bad w h s g)) k
 
-command_kept : (c : Command) (parents votes w : List ℕ) (opened : Bool) → Keeps opened w → Keeps (command_opens c || opened) (command_does c parents votes w).words
-command_kept (Open s) parents votes w opened k = open_kept w s opened (kept_length w opened k) k
-command_kept (Book name slot count) parents votes w opened k = book_keeps w opened k name slot parents
-command_kept (Poll name count) parents votes w opened k = poll_keeps w opened k name votes
-command_kept (Read what name) parents votes w opened k = k
-command_kept ListAll parents votes w opened k = k
-command_kept Bad parents votes w opened k = k
+command_kept : (c : Option Command) (parents votes w : List ℕ) (opened : Bool) → Keeps opened w → Keeps (command_opens c || opened) (command_does c parents votes w).words
+command_kept (Some (Open s)) parents votes w opened k = open_kept w s opened (kept_length w opened k) k
+command_kept (Some (Book name slot count)) parents votes w opened k = book_keeps w opened k name slot parents
+command_kept (Some (Poll name count)) parents votes w opened k = poll_keeps w opened k name votes
+command_kept (Some (Read what name)) parents votes w opened k = k
+command_kept (Some ListAll) parents votes w opened k = k
+command_kept None parents votes w opened k = k
 
 -- they are a ledger from a taken opening on, and stay what they were otherwise
 pub served_kept : (w line : List ℕ) (opened : Bool) → Keeps opened w → Keeps (opens line || opened) (served w line).words

@@ -1,4 +1,5 @@
 -- No line prints more than the longest listing.
+use Rattle.std.specs.Prelude.{Err, Ok}
 use mathlib.Core.Path.{◌≡◌, refl, sym, subst}
 use mathlib.Core.List.{List}
 use Prim.Native.Nat.{ℕ, ◌≤◌}
@@ -6,11 +7,9 @@ use native.Mathlib.Omega.{arith}
 use lib.IntN.{ℤ, nat_abs}
 use lib.ListN.{length, length-append}
 use Rattle.terms.specs.declared.answer.Refusal.{Refusal}
-use Rattle.terms.specs.declared.answer.Answer.{Answer}
-use Rattle.terms.specs.declared.answer.Answer.TheVariants.{Taken, Refused}
 use Rattle.terms.specs.declared.answer.Reading.{Reading}
 use Rattle.terms.specs.declared.answer.Reading.TheVariants.{Query, Accepted, Lead, Confidence, Size}
-use Rattle.terms.specs.Answers.{refusal_number, number, value}
+use Rattle.terms.specs.Answers.{refusal_number, number, value, Answer}
 use Rattle.rules.specs.Calls.{read_call}
 use Rattle.rule_laws.proofs.Calls.{refusal_number_within}
 use Rattle.text_put.specs.Decimal.{signed}
@@ -25,16 +24,16 @@ refusal_length r =
     simp length-append (omega (arith, decimal_length (refusal_number r) (omega (arith, (refusal_number_within r).1))))
 
 pub call_length : (a : Answer) → length (call_prints a) ≤ answer_most
-call_length (Taken v) = omega arith
-call_length (Refused r) = refusal_length r
+call_length (Ok v) = omega arith
+call_length (Err r) = refusal_length r
 
 -- ---- readings
 
 value_length : (a : Answer) → (number a ≡ 0 → nat_abs (value a) ≤ 512) → length (reading_prints a) ≤ answer_most
 unfolding signed
-value_length (Taken v) h =
+value_length (Ok v) h =
     simp length-append (omega (arith, sign_length v, decimal_length (nat_abs v) (omega (arith, h refl))))
-value_length (Refused r) h = refusal_length r
+value_length (Err r) h = refusal_length r
 
 between_nat_abs : {least most : ℕ} {z : ℤ} → Between least most z → nat_abs z ≤ most
 between_nat_abs {most = most} b = subst (λ y. nat_abs y ≤ most) (sym b.is) b.below

@@ -1,7 +1,6 @@
 -- Document 01, "The text program": what one line does to the words, and what it prints.
-use Rattle.std.specs.Prelude.{ℕ, ◌+◌, ◌≤◌, ◌≡◌, Bool, true, false, List, length, replicate}
-use Rattle.terms.specs.declared.answer.Answer.{Answer}
-use Rattle.terms.specs.Answers.{Outcome}
+use Rattle.std.specs.Prelude.{ℕ, ◌+◌, ◌≤◌, ◌≡◌, Bool, true, false, List, Option, Some, None, length, replicate}
+use Rattle.terms.specs.Answers.{Outcome, Answer}
 use Rattle.terms.specs.Setting.{is_good}
 use Rattle.rules.specs.Layout.{size}
 use Rattle.rules.specs.Sound.{Ledger}
@@ -10,7 +9,7 @@ use Rattle.rules.specs.Listing.{list_call}
 use Rattle.put.specs.Put.{Put}
 use Rattle.text_print.specs.Print.{bad_line, reading_prints, call_prints}
 use Rattle.line_parse.specs.declared.command.Command.{Command}
-use Rattle.line_parse.specs.declared.command.Command.TheVariants.{Open, Book, Poll, Read, List as ListAll, Bad}
+use Rattle.line_parse.specs.declared.command.Command.TheVariants.{Open, Book, Poll, Read, List as ListAll}
 use Rattle.line_parse.specs.Line.{Said, line_says}
 use Rattle.text_listing.specs.Listed.{list_shows, line_most}
 use Rattle.line_serve.specs.declared.Served.{Served}
@@ -35,13 +34,13 @@ listed w = record { words = w; prints = list_shows (list_call w) w }
 abbrev pub bad : List ℕ → Effect
 bad w = record { words = w; prints = bad_line }
 
-abbrev pub command_does : Command → (parents votes w : List ℕ) → Effect
-command_does (Open s) parents votes w = called (open_call w s)
-command_does (Book name slot count) parents votes w = called (book_call w name slot parents)
-command_does (Poll name count) parents votes w = called (poll_call w name votes)
-command_does (Read what name) parents votes w = asked w (read_call what w name)
-command_does ListAll parents votes w = listed w
-command_does Bad parents votes w = bad w
+abbrev pub command_does : Option Command → (parents votes w : List ℕ) → Effect
+command_does (Some (Open s)) parents votes w = called (open_call w s)
+command_does (Some (Book name slot count)) parents votes w = called (book_call w name slot parents)
+command_does (Some (Poll name count)) parents votes w = called (poll_call w name votes)
+command_does (Some (Read what name)) parents votes w = asked w (read_call what w name)
+command_does (Some ListAll) parents votes w = listed w
+command_does None parents votes w = bad w
 
 abbrev pub said_does : Said → List ℕ → Effect
 said_does said w = command_does said.command said.parents said.votes w
@@ -57,13 +56,13 @@ Keeps true w = Ledger w
 Keeps false w = w ≡ replicate size 0
 
 -- the line is an opening that is taken on words of the right length
-abbrev pub command_opens : Command → Bool
-command_opens (Open s) = is_good s
-command_opens (Book name slot count) = false
-command_opens (Poll name count) = false
-command_opens (Read what name) = false
-command_opens ListAll = false
-command_opens Bad = false
+abbrev pub command_opens : Option Command → Bool
+command_opens (Some (Open s)) = is_good s
+command_opens (Some (Book name slot count)) = false
+command_opens (Some (Poll name count)) = false
+command_opens (Some (Read what name)) = false
+command_opens (Some ListAll) = false
+command_opens None = false
 
 abbrev pub opens : List ℕ → Bool
 opens line = command_opens (line_says line).command

@@ -1,5 +1,6 @@
 // What one line does to the workspace and prints. The words are all zero until a ledger is opened and a ledger from then on, and which is known at all
 // times: so no line tests them again, and the only damage that is ever told is that of words which were never opened.
+// Words, flag, buffer and offset stay apart, as the contract of `serve` has them: a struct of two lent buffers would take more clauses than it spares.
 #![tactic(auto)]
 
 ghost use Rattle.std.specs.Prelude.{◌≡◌};
@@ -11,7 +12,7 @@ use line_parse::command::Command;
 use terms::answer::{Answer, Reading, Refusal};
 use terms::setting::Setting;
 
-// The offset after what was printed, and whether the workspace is a ledger now.
+// The offset after what was printed, and whether the workspace is a ledger now: a flag, since the words are there either way.
 #[derive(Drop)]
 pub struct Served {
     pub at: usize,
@@ -26,7 +27,7 @@ fn serve_open(w: &mut [u16], known: bool, s: Setting, out: &mut [u8], at: usize)
         open_writes::write_open(w, s);
         Served { at, known: true }
     } else {
-        let next = text_print::put_call(out, at, Answer::Refused(Refusal::BadSetting));
+        let next = text_print::put_call(out, at, Err(Refusal::BadSetting));
         Served { at: next, known }
     }
 }
@@ -39,7 +40,7 @@ fn book(w: &mut [u16], known: bool, name: u64, slot: u16, parents: &[u64]) -> An
     if known {
         known_book::book(w, name, slot, parents)
     } else {
-        Answer::Refused(Refusal::DamagedHeader)
+        Err(Refusal::DamagedHeader)
     }
 }
 
@@ -68,7 +69,7 @@ fn poll(w: &mut [u16], known: bool, name: u64, votes: &[u8]) -> Answer
     if known {
         known_poll::poll(w, name, votes)
     } else {
-        Answer::Refused(Refusal::DamagedHeader)
+        Err(Refusal::DamagedHeader)
     }
 }
 
@@ -96,7 +97,7 @@ fn read(w: &[u16], known: bool, name: u64, what: Reading) -> Answer
     if known {
         known_read::ask(w, name, what)
     } else {
-        Answer::Refused(Refusal::DamagedHeader)
+        Err(Refusal::DamagedHeader)
     }
 }
 
@@ -117,7 +118,7 @@ fn serve_list(w: &[u16], known: bool, out: &mut [u8], at: usize) -> Served
         let next = text_listing::put_list(w, out, at);
         Served { at: next, known }
     } else {
-        let next = text_print::put_call(out, at, Answer::Refused(Refusal::DamagedHeader));
+        let next = text_print::put_call(out, at, Err(Refusal::DamagedHeader));
         Served { at: next, known }
     }
 }
@@ -130,14 +131,16 @@ fn serve_bad(w: &[u16], known: bool, out: &mut [u8], at: usize) -> Served
     Served { at: next, known }
 }
 
-// The whole line is judged first; then its call is made.
+// The whole line is judged first; then its call is made: each command has its own function, so a match and no table.
 pub fn serve(w: &mut [u16], known: bool, line: &[u8], out: &mut [u8], at: usize) -> Served
     requires { Ready w.old known out.old at }
     ensures { Serves (served w.old line.now) out.old at result w.new out.new }
 {
     let mut parents = [0u64; 16];
     let mut votes = [0u8; 64];
-    let command = line_parse::parse(line, &mut parents, &mut votes);
+    let Some(command) = line_parse::parse(line, &mut parents, &mut votes) else {
+        return serve_bad(w, known, out, at);
+    };
     match command {
         Command::Open(s) => serve_open(w, known, s, out, at),
         Command::Book { name, slot, count } => serve_book(
@@ -152,6 +155,5 @@ pub fn serve(w: &mut [u16], known: bool, line: &[u8], out: &mut [u8], at: usize)
         Command::Poll { name, count } => serve_poll(w, known, name, &votes[..count], out, at),
         Command::Read { reading, name } => serve_read(w, known, name, reading, out, at),
         Command::List => serve_list(w, known, out, at),
-        Command::Bad => serve_bad(w, known, out, at),
     }
 }

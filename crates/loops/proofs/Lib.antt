@@ -4,4 +4,6 @@ pub mod Search
 pub mod Total
 pub mod Fill
 pub mod Rows
+pub mod Elements
 pub mod Bools
+pub mod Chains

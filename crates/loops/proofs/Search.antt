@@ -9,7 +9,8 @@ use native.Mathlib.Decide.{dec_lt}
 use native.Mathlib.Omega.{arith}
 use lib.Dec.{eqb, ltb}
 use borrow.Author.Tests.{eqb-true, eq-eqb, ne_eqb, ltb-true, lt-ltb, le-ltb, ltb-false, not-true, not-false}
-use Rattle.loops.specs.Search.{first_from, first, all, any}
+use Rattle.std.specs.Prelude.{Some, None}
+use Rattle.loops.specs.Search.{first_from, first, all, any, found_below}
 use Rattle.loops.proofs.Bools.{and_left, and_right, and_both, refuted}
 
 -- ---- one step, as a loop that counts has it
@@ -157,6 +158,10 @@ pub →none : (p : ℕ → Bool) (n : ℕ) → ((j : ℕ) → j < n → p j ≡ 
     go (yes l) = absurd (true≢false (sym (first_hit p n l) ∙ h _ l))
     go (no l) = le-ltb (first p n) n (omega arith)
 
+not_not : (b : Bool) → not (not b) ≡ b
+not_not true = refl
+not_not false = refl
+
 -- not all pass exactly if some fails
 pub not_all : (p : ℕ → Bool) (n : ℕ) → any (λ i. not (p i)) n ≡ not (all p n)
 not_all p n = go (dec_lt (first (λ i. not (p i)) n) n)
@@ -166,6 +171,10 @@ not_all p n = go (dec_lt (first (λ i. not (p i)) n) n)
     go (no l) =
         le-ltb (first (λ i. not (p i)) n) n (omega arith)
         ∙ sym (ap not (eq-eqb (first (λ i. not (p i)) n) n (omega (arith, first_le (λ i. not (p i)) n))))
+
+-- and all pass exactly if none fails
+pub none_fails : (p : ℕ → Bool) (n : ℕ) → not (any (λ i. not (p i)) n) ≡ all p n
+none_fails p n = ap not (not_all p n) ∙ not_not (all p n)
 
 -- ---- over one number more, and tests that agree
 
@@ -215,3 +224,55 @@ first_ends p n m l before hit = go (dec_lt m n)
     go : Dec (m < n) → first p n ≡ m
     go (yes u) = first_unique p n m u (hit u) before
     go (no u) = omega (arith, first_le p n, ltb-false (first p n) n (→none p n (λ j h. before j (omega arith))))
+
+-- ---- what was found below a limit
+
+pub found_some : (limit k : ℕ) → k < limit → found_below limit k ≡ Some k
+found_some limit k l = rw (lt-ltb k limit l)
+
+pub found_none : (limit k : ℕ) → limit ≤ k → found_below limit k ≡ None
+found_none limit k l = rw (le-ltb k limit l)
+
+pub found_some→ : (limit k i : ℕ) → Some i ≡ found_below limit k → (i ≡ k) × (k < limit)
+found_some→ limit k i e = go (dec_lt k limit)
+  where
+    go : Dec (k < limit) → (i ≡ k) × (k < limit)
+    go (yes l) = let q : Some i ≡ Some k = e ∙ found_some limit k l in (cc, l)
+    go (no l) = let q : Some i ≡ None = e ∙ found_none limit k (omega arith) in cc
+
+pub found_none→ : (limit k : ℕ) → None ≡ found_below limit k → limit ≤ k
+found_none→ limit k e = go (dec_lt k limit)
+  where
+    go : Dec (k < limit) → limit ≤ k
+    go (yes l) = let q : None ≡ Some k = e ∙ found_some limit k l in cc
+    go (no l) = omega arith
+
+-- where p fails below a and from m on, a search by it for all n is one from a to m, by a test that agrees with it there
+pub found_between : (p q : ℕ → Bool) (a m n : ℕ) → a ≤ m → m ≤ n → ((j : ℕ) → j < a → p j ≡ false) → ((j : ℕ) → a ≤ j → j < m → q j ≡ p j)
+    → ((j : ℕ) → m ≤ j → j < n → p j ≡ false) → found_below m (first_from q a (m - a)) ≡ found_below n (first p n)
+found_between p q a m n am mn before same after = go (dec_lt k m)
+  where
+    k : ℕ
+    k = first_from q a (m - a)
+
+    -- none below k passes
+    fails : (j : ℕ) → j < k → p j ≡ false
+    fails j l = below (dec_lt j a)
+      where
+        below : Dec (j < a) → p j ≡ false
+        below (yes u) = before j u
+        below (no u) =
+            sym (same j (omega arith) (omega (arith, (first_from_le q a (m - a)).1))) ∙ first_from_before q a (m - a) j (omega arith) l
+
+    go : Dec (k < m) → found_below m k ≡ found_below n (first p n)
+    go (yes l) =
+        let hit : q k ≡ true = first_from_hit q a (m - a) (omega arith) in
+        let e : first p n ≡ k = first_unique p n k (omega arith) (sym (same k (first_from_le q a (m - a)).0 l) ∙ hit) fails in
+        found_some m k l ∙ sym (ap (found_below n) e ∙ found_some n k (omega arith))
+    go (no l) =
+        let e : first p n ≡ n = first_ends p n n (omega arith) (λ j u. rest j u (dec_lt j m)) (λ u. absurd (omega arith)) in
+        found_none m k (omega arith) ∙ sym (ap (found_below n) e ∙ found_none n n (omega arith))
+      where
+        rest : (j : ℕ) → j < n → Dec (j < m) → p j ≡ false
+        rest j u (yes v) = fails j (omega arith)
+        rest j u (no v) = after j (omega arith) u

@@ -37,10 +37,6 @@ pub greatest_zero : (f : ℕ → ℕ) → greatest f 0 ≡ 0
 unfolding greatest
 greatest_zero f = refl
 
-pub greatest_more : (f : ℕ → ℕ) (n : ℕ) → greatest f (n + 1) ≡ max (greatest f n) (f n)
-unfolding greatest
-greatest_more f n = rw add-one
-
 -- ---- sums
 
 -- equal parts, equal sums

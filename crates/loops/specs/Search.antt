@@ -1,5 +1,5 @@
 -- The first number at which a test passes, and what is said by it: that all pass, that some passes.
-use Rattle.std.specs.Prelude.{ℕ, zero, suc, Bool, true, false, not, eqb, ltb}
+use Rattle.std.specs.Prelude.{ℕ, zero, suc, Bool, true, false, not, cond, eqb, ltb, Option, Some, None}
 
 -- the first of i, i + 1, .. at which p passes, trying k of them; i + k where none does
 unfoldable pub first_from : (ℕ → Bool) → ℕ → ℕ → ℕ
@@ -17,3 +17,7 @@ all p n = eqb (first (λ i. not (p i)) n) n
 -- p passes at some number below n
 abbrev pub any : (ℕ → Bool) → ℕ → Bool
 any p n = ltb (first p n) n
+
+-- what a search below the limit found: the number, or nothing where it is not below
+abbrev pub found_below : ℕ → ℕ → Option ℕ
+found_below limit k = cond (ltb k limit) (Some k) None

@@ -9,7 +9,7 @@ ghost use Rattle.marked_slots.specs.MarkedSlots.{marked_slot, marks_below, mark_
 
 use rules::layout;
 
-// No bit stands for it.
+// No bit of eight words stands for it. A number and no None: `note_mark` promises its bit of any longer buffer too.
 const NO_SLOT: usize = layout::NONE as usize;
 
 // The slot of record i if it is marked, else 65535.
@@ -48,5 +48,5 @@ pub fn mark_good(w: &[u16], i: usize, marked: &[u64]) -> bool
 {
     let mark = words::field(w, i, layout::MARK);
     let s = words::wide_field(w, i, layout::SLOT);
-    (mark <= 1) & (!(mark == 1) | !bits::is_set(marked, s))
+    (mark <= 1) & ((mark != 1) | !bits::is_set(marked, s))
 }

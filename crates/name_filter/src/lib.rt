@@ -43,12 +43,7 @@ fn look_back(w: &[u16], i: usize, name: u64) -> bool
     requires { (length w.now ≡ size) × (i < most_bookings) × (name ≡ name_of w.now i) }
     ensures { result ≡ name_new w.now i }
 {
-    for j in 0..i {
-        if words::name(w, j) == name {
-            return false;
-        }
-    }
-    true
+    !(0..i).any(|j| words::name(w, j) == name)
 }
 
 // Notes the name of record i in the filter, which has those of the lower records, and tells whether none of them has it.

@@ -2,7 +2,7 @@
 #![tactic(auto)]
 
 ghost use Rattle.std.specs.Prelude.{◌≡◌, ◌<◌};
-ghost use Rattle.name_index.specs.Hash.{hashed, name_width, name_byte, hash_of};
+ghost use Rattle.name_index.specs.Hash.{hashed, hash_of};
 ghost use Rattle.name_index.specs.Index.{cells, home};
 
 use name_index::cells;
@@ -10,33 +10,22 @@ use name_index::cells;
 // What the hash starts from, and what it is multiplied by. The law has the same numbers.
 const START: u32 = 2166136261;
 
-const PRIME: u64 = 16777619;
-
-const NAME_BYTES: usize = 8;
+const PRIME: u32 = 16777619;
 
 // One byte more: xor, then a multiplication that wraps.
 fn fnv_step(hash: u32, byte: u8) -> u32
     ensures { result ≡ hashed hash byte }
 {
-    (((hash ^ (byte as u32)) as u64) * PRIME % 4294967296) as u32
+    (hash ^ u32::from(byte)).wrapping_mul(PRIME)
 }
 
-// Byte j of a name; 0 is the highest.
-fn name_byte(name: u64, j: usize) -> u8
-    requires { j < name_width }
-    ensures { result ≡ name_byte name j }
-{
-    ((name >> (56 - 8 * j)) % 256) as u8
-}
-
+// The eight bytes, highest first, one step each.
 fn hash(name: u64) -> u32
     ensures { result ≡ hash_of name }
 {
-    let mut hash = START;
-    for j in 0..NAME_BYTES {
-        hash = fnv_step(hash, name_byte(name, j));
-    }
-    hash
+    name.to_be_bytes()
+        .iter()
+        .fold(START, |hash, byte| fnv_step(hash, *byte))
 }
 
 // Where a name's probing begins.

@@ -1,4 +1,5 @@
 -- Laws of the built index: probing from its name's home meets every booking before an empty cell, so a lookup finds what the plain search finds.
+use Rattle.std.specs.Prelude.{None, Option, Some}
 use mathlib.Core.Path.{◌≡◌, refl, sym, ap, subst, ◌∙◌}
 use mathlib.Core.Bool.{true, false, not, true≢false}
 use mathlib.Core.List.{List}
@@ -14,15 +15,13 @@ use Rattle.loops.specs.Total.{bit, count}
 use Rattle.loops.proofs.Search.{first_hit, first_before}
 use Rattle.loops.proofs.Turns.{up_to_kept, up_to_carried, up_to_same, up_to_more}
 use Rattle.loops.proofs.Total.{total_other, count_all, count_none}
-use Rattle.terms.specs.declared.answer.Found.{Found}
-use Rattle.terms.specs.declared.answer.Found.TheVariants.{At, Absent}
 use Rattle.rules.specs.Layout.{most_bookings, bookings, name_of}
 use Rattle.rules.specs.Book.{look_up}
 use Rattle.rules.specs.Sound.{Sound}
 use Rattle.rule_laws.proofs.Lookup.{found_below_lem, found_name}
 use Rattle.name_index.specs.Index.{cells, empty, cell, is_empty, home, tried, passed, probe, look_up_in, is_full, with_number, empty_index, built}
 use Rattle.name_index.specs.AsRead.{NameMet}
-use Rattle.name_index.proofs.Probing.{is_held, free_within, probe_met, At_absent, found_plain, met_found}
+use Rattle.name_index.proofs.Probing.{is_held, free_within, probe_met, some_none, found_plain, met_found}
 
 -- ---- what is entered is met
 
@@ -142,13 +141,13 @@ built_look_up w name sound = go (look_up w name) refl (look_up_in w (built w) na
     filled : Filled w (bookings w) (built w)
     filled = Filled_built w sound.bookings_most
 
-    go : (f : Found) → look_up w name ≡ f → (g : Found) → look_up_in w (built w) name ≡ g → g ≡ f
-    go f e (At i) d = sym (found_plain w (built w) name i sound filled.whole d) ∙ e
-    go (At j) e Absent d =
+    go : (f : Option ℕ) → look_up w name ≡ f → (g : Option ℕ) → look_up_in w (built w) name ≡ g → g ≡ f
+    go f e (Some i) d = sym (found_plain w (built w) name i sound filled.whole d) ∙ e
+    go (Some j) e None d =
         let l : j < bookings w = found_below_lem w name j e in
-        let s : look_up_in w (built w) (name_of w j) ≡ Absent = ap (look_up_in w (built w)) (found_name w name j e) ∙ d in
-        absurd (At_absent _ (sym (met_found w (built w) (name_of w j) (name_met w (built w) j (filled.met j l) l) sound.bookings_most) ∙ s))
-    go Absent e Absent d = refl
+        let s : look_up_in w (built w) (name_of w j) ≡ None = ap (look_up_in w (built w)) (found_name w name j e) ∙ d in
+        absurd (some_none _ (sym (met_found w (built w) (name_of w j) (name_met w (built w) j (filled.met j l) l) sound.bookings_most) ∙ s))
+    go None e None d = refl
 
 -- ---- entering keeps an index built
 

@@ -10,10 +10,8 @@ use Rattle.loops.specs.Search.{first_from}
 use Rattle.loops.specs.Total.{bit, total}
 use Rattle.loops.specs.Fill.{from}
 use Rattle.loops.specs.Rows.{walk_from}
-use Rattle.terms.specs.declared.answer.Tested.{Tested}
-use Rattle.terms.specs.declared.answer.Answer.{Answer}
 use Rattle.terms.specs.Setting.{setting_of}
-use Rattle.terms.specs.Answers.{Outcome, Handover}
+use Rattle.terms.specs.Answers.{Outcome, Handover, Answer, Tested}
 use Rattle.rules.specs.Layout.{size, polls_field, confidence_field, counter_field, with_header, with_field, with_entry}
 use Rattle.rules.specs.IsSound.{header_good, genesis_good, booking_good, parents_good, state_good, mark_good, chits, bookings_of}
 use Rattle.rules.specs.Open.{opened, open_word}

@@ -1,4 +1,5 @@
 -- Probing as the code's loops have it: what was tried so far, how a turn goes on and how it ends, for an empty cell and for a name.
+use Rattle.std.specs.Prelude.{None, Some}
 use mathlib.Core.Path.{◌≡◌, refl, sym, ap, ◌∙◌}
 use mathlib.Core.Bool.{Bool, true, false, and-false}
 use mathlib.Core.List.{List, [], ◌∷◌}
@@ -6,12 +7,14 @@ use mathlib.Core.Logic.{◌≢◌}
 use Prim.Native.Nat.{ℕ, zero, suc, ◌+◌, ◌<◌, ◌≤◌}
 use native.Mathlib.Omega.{arith}
 use lib.ListN.{length, get_or, get_or-eq_default}
-use lib.Dec.{ltb}
+use lib.Dec.{ltb, eqb}
+use native.Mathlib.Decide.{dec_lt}
 use borrow.Author.Tests.{eq-eqb, ne_eqb, lt-ltb, le-ltb}
-use Rattle.loops.proofs.Search.{Searched, search_start, search_hit, search_miss, search_over}
-use Rattle.terms.specs.declared.answer.Found.TheVariants.{At, Absent}
+use Rattle.std.specs.Option.{option_map}
+use Rattle.loops.specs.Search.{first, found_below}
+use Rattle.loops.proofs.Search.{found_some, found_none, first_from_same, Searched, search_start, search_hit, search_miss, search_over}
 use Rattle.rules.specs.Layout.{bookings, name_of}
-use Rattle.name_index.specs.Index.{cells, empty, cell, is_empty, home, tried, probe, ends_lookup, held_number, look_up_in}
+use Rattle.name_index.specs.Index.{cells, empty, cell, is_empty, home, tried, passed, probe, ends_lookup, held_number, look_up_in}
 
 -- what a cell of the index holds, whatever is read past the end
 cell_within : (index : List ℕ) (c : ℕ) → c < length index → get_or index c 0 ≡ cell index c
@@ -48,15 +51,17 @@ module _ (index : List ℕ) (h : ℕ) where
 
   -- ---- for an empty cell
 
-  module _ (whole : length index ≡ cells) (t : ℕ) (s : Probed is_empty t) where
-    pub free_hit : t < cells → held_at t ≡ empty → tried h t ≡ probe is_empty index h
-    free_hit l e = probe_hit whole is_empty t s l (eq-eqb (held_at t) empty e)
+  -- the first that holds what an empty cell holds, if one does
+  pub free_probed : length index ≡ cells → option_map (tried h) (found_below cells (first (λ t. eqb (held_at t) empty) cells)) ≡ found_below cells (probe is_empty index h)
+  unfolding probe
+  free_probed whole = ap (λ k. option_map (tried h) (found_below cells k)) same ∙ go (dec_lt (passed is_empty index h) cells)
+    where
+      same : first (λ t. eqb (held_at t) empty) cells ≡ passed is_empty index h
+      same = first_from_same _ _ 0 cells (λ t l u. ap is_empty (cell_within index (tried h t) (omega (arith, whole))))
 
-    pub free_miss : t < cells → held_at t ≢ empty → Probed is_empty (t + 1)
-    free_miss l e = probe_miss whole is_empty t s l (ne_eqb (held_at t) empty e)
-
-    pub free_over : cells ≤ t → cells ≡ probe is_empty index h
-    free_over l = probe_end whole is_empty t s l
+      go : Dec (passed is_empty index h < cells) → option_map (tried h) (found_below cells (passed is_empty index h)) ≡ found_below cells (probe is_empty index h)
+      go (yes l) = rw (lt-ltb (passed is_empty index h) cells l) (sym (found_some cells (tried h (passed is_empty index h)) (omega arith)))
+      go (no l) = rw (le-ltb (passed is_empty index h) cells (omega arith)) (sym (found_none cells cells (omega arith)))
 
   -- ---- for a name, from its home on
 
@@ -66,19 +71,19 @@ module _ (index : List ℕ) (h : ℕ) where
     unfolding look_up_in
     found_at e q = ap (λ c. held_number (cell index c)) q ∙ ap (λ h. held_number (cell index (probe (ends_lookup w name) index h))) e
 
-    pub find_empty : h ≡ home name → t < cells → held_at t ≡ empty → Absent ≡ look_up_in w index name
+    pub find_empty : h ≡ home name → t < cells → held_at t ≡ empty → None ≡ look_up_in w index name
     find_empty e l v =
-        let here : held_number (cell index (tried h t)) ≡ Absent = rw (← as_read whole (ends_lookup w name) t s, v) in
+        let here : held_number (cell index (tried h t)) ≡ None = rw (← as_read whole (ends_lookup w name) t s, v) in
         sym here ∙ found_at e (probe_hit whole (ends_lookup w name) t s l (rw (eq-eqb (held_at t) empty v)))
 
-    pub find_over : h ≡ home name → cells ≤ t → Absent ≡ look_up_in w index name
+    pub find_over : h ≡ home name → cells ≤ t → None ≡ look_up_in w index name
     find_over e l = ap held_number (sym (get_or-eq_default index empty (omega (arith, whole)))) ∙ found_at e (probe_end whole (ends_lookup w name) t s l)
 
     module _ (l : t < cells) (held : held_at t ≢ empty) where
-      pub find_hit : h ≡ home name → held_at t < bookings w → name_of w (held_at t) ≡ name → At (held_at t) ≡ look_up_in w index name
+      pub find_hit : h ≡ home name → held_at t < bookings w → name_of w (held_at t) ≡ name → Some (held_at t) ≡ look_up_in w index name
       find_hit e below named =
           let ending : ends_lookup w name (held_at t) ≡ true = rw (ne_eqb (held_at t) empty held, lt-ltb (held_at t) (bookings w) below, eq-eqb (name_of w (held_at t)) name named) in
-          let here : held_number (held_at t) ≡ At (held_at t) = rw (ne_eqb (held_at t) empty held) in
+          let here : held_number (held_at t) ≡ Some (held_at t) = rw (ne_eqb (held_at t) empty held) in
           sym here ∙ ap held_number (as_read whole (ends_lookup w name) t s) ∙ found_at e (probe_hit whole (ends_lookup w name) t s l ending)
 
       -- a number that is no booking's is passed over

@@ -1,4 +1,5 @@
 -- Laws of probing, over any index: every cell is tried, where probing ends, what a lookup finds there, and which cell entering takes.
+use Rattle.std.specs.Prelude.{None, Some}
 use mathlib.Core.Path.{◌≡◌, refl, sym, ap, ◌∙◌}
 use mathlib.Core.Bool.{Bool, true, false, not, true≢false}
 use mathlib.Core.List.{List}
@@ -12,7 +13,6 @@ use lib.Dec.{eqb, ltb}
 use borrow.Author.Tests.{eqb-true, eqb-false, eq-eqb, ne_eqb, ltb-true, lt-ltb, le-ltb, not-true}
 use Rattle.loops.proofs.Search.{first_le, first_hit, first_before, first_reaches, first_unique, all→, →all, any→, not_all}
 use Rattle.loops.proofs.Bools.{and_left, and_right, and_both, neither, or_right, or_else}
-use Rattle.terms.specs.declared.answer.Found.TheVariants.{At, Absent}
 use Rattle.rules.specs.Layout.{most_bookings, bookings, name_of}
 use Rattle.rules.specs.Book.{look_up, is_found, number_of}
 use Rattle.rules.specs.Sound.{Sound}
@@ -116,10 +116,10 @@ none→full index none = →all (is_held index) cells (λ c l. ap not (ne_eqb (c
 cell_past : (index : List ℕ) → length index ≡ cells → cell index cells ≡ empty
 cell_past index e = get_or-eq_default index empty (omega (arith, e))
 
-held_number_empty : (held : ℕ) → is_empty held ≡ true → held_number held ≡ Absent
+held_number_empty : (held : ℕ) → is_empty held ≡ true → held_number held ≡ None
 held_number_empty held e = rw e
 
-held_number_held : (held : ℕ) → is_empty held ≡ false → held_number held ≡ At held
+held_number_held : (held : ℕ) → is_empty held ≡ false → held_number held ≡ Some held
 held_number_held held e = rw e
 
 -- what a lookup ends at, by any index: an empty cell, or the number of a booking that has the name
@@ -141,7 +141,7 @@ module _ (w index : List ℕ) (name : ℕ) where
   found_within l = ap (λ c. held_number (cell index c)) (probe_met (ends_lookup w name) index (home name) l)
 
   -- or every cell was tried
-  found_past : length index ≡ cells → cells ≤ last → look_up_in w index name ≡ Absent
+  found_past : length index ≡ cells → cells ≤ last → look_up_in w index name ≡ None
   unfolding look_up_in
   found_past whole l =
       ap (λ c. held_number (cell index c)) (probe_over (ends_lookup w name) index (home name) l)
@@ -155,22 +155,22 @@ module _ (w index : List ℕ) (name : ℕ) where
       go (no l) = record { held = empty; found = found_past e (omega arith); ends = refl }
 
 -- what is found is something
-pub At_absent : (i : ℕ) → At i ≡ Absent → ⊥
-At_absent i e = true≢false (ap is_found e)
+pub some_none : (i : ℕ) → Some i ≡ None → ⊥
+some_none i e = true≢false (ap is_found e)
 
-held_number_same : (held i : ℕ) → held_number held ≡ At i → held ≡ i
+held_number_same : (held i : ℕ) → held_number held ≡ Some i → held ≡ i
 held_number_same held i e = go (is_empty held) refl
   where
     go : (b : Bool) → is_empty held ≡ b → held ≡ i
-    go true q = absurd (At_absent i (sym e ∙ held_number_empty held q))
+    go true q = absurd (some_none i (sym e ∙ held_number_empty held q))
     go false q = ap number_of (sym (held_number_held held q) ∙ e)
 
 -- the number found, by any index, is that of a booking with the name
-pub found_of : (w index : List ℕ) (name i : ℕ) → length index ≡ cells → look_up_in w index name ≡ At i → (i < bookings w) × (name_of w i ≡ name)
+pub found_of : (w index : List ℕ) (name i : ℕ) → length index ≡ cells → look_up_in w index name ≡ Some i → (i < bookings w) × (name_of w i ≡ name)
 found_of w index name i whole e = let k = looked w index name whole in go k (is_empty k.held) refl
   where
     go : (k : Looked w index name) (b : Bool) → is_empty k.held ≡ b → (i < bookings w) × (name_of w i ≡ name)
-    go k true q = absurd (At_absent i (sym e ∙ k.found ∙ held_number_empty k.held q))
+    go k true q = absurd (some_none i (sym e ∙ k.found ∙ held_number_empty k.held q))
     go k false q =
         let of : is_of w name i ≡ true = ap (is_of w name) (sym (held_number_same k.held i (sym k.found ∙ e))) ∙ or_right (is_empty k.held) _ k.ends q in (
           ltb-true i (bookings w) (and_left (ltb i (bookings w)) (eqb (name_of w i) name) of),
@@ -178,7 +178,7 @@ found_of w index name i whole e = let k = looked w index name whole in go k (is_
         )
 
 -- by any index: on a sound workspace it is what the plain search finds
-pub found_plain : (w index : List ℕ) (name i : ℕ) → Sound w → length index ≡ cells → look_up_in w index name ≡ At i → look_up w name ≡ At i
+pub found_plain : (w index : List ℕ) (name i : ℕ) → Sound w → length index ≡ cells → look_up_in w index name ≡ Some i → look_up w name ≡ Some i
 found_plain w index name i sound whole e =
     let f = found_of w index name i whole e in
     ap (look_up w) (sym f.1) ∙ found_is w sound i f.0
@@ -208,13 +208,13 @@ module _ (w index : List ℕ) (name : ℕ) (m : NameMet w index name) (most : bo
       (λ (q : met_at < m.others). ne_eqb (cell index (tried (home name) met_at)) empty (m.before met_at q))
       (eq-or-lt_of_le met_reached)
 
-  pub met_found : look_up_in w index name ≡ At (cell index (tried (home name) met_at))
+  pub met_found : look_up_in w index name ≡ Some (cell index (tried (home name) met_at))
   met_found =
       found_within w index name (omega (arith, met_reached, m.within))
       ∙ held_number_held (cell index (tried (home name) met_at)) met_held
 
 -- and who is found was met
-pub found_met : (w index : List ℕ) (name i : ℕ) → length index ≡ cells → look_up_in w index name ≡ At i → NameMet w index name
+pub found_met : (w index : List ℕ) (name i : ℕ) → length index ≡ cells → look_up_in w index name ≡ Some i → NameMet w index name
 found_met w index name i whole e = go (dec_lt (last w index name) cells)
   where
     go : Dec (last w index name < cells) → NameMet w index name
@@ -229,4 +229,4 @@ found_met w index name i whole e = go (dec_lt (last w index name) cells)
           named = ap (name_of w) same ∙ of.1;
           before = λ s u. eqb-false (cell index (tried (home name) s)) empty (neither (is_empty (cell index (tried (home name) s))) _ (first_before (ending w index name) cells s u)).0;
         }
-    go (no l) = absurd (At_absent i (sym e ∙ found_past w index name whole (omega arith)))
+    go (no l) = absurd (some_none i (sym e ∙ found_past w index name whole (omega arith)))

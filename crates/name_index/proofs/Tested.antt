@@ -1,5 +1,6 @@
 -- What the test of the words and of the index beside them tells: nothing stops a call exactly on a ledger with an index of the right length, and there
 -- each call is what follows the test.
+use Rattle.std.specs.Prelude.{Err, None, Ok, Some}
 use mathlib.Core.Path.{◌≡◌, sym, ap, ◌∙◌}
 use mathlib.Core.Bool.{true, false, not}
 use mathlib.Core.List.{List}
@@ -7,14 +8,9 @@ use Prim.Native.Nat.{ℕ}
 use lib.IntN.{pos}
 use lib.ListN.{length}
 use borrow.Author.Tests.{eqb-true, eq-eqb, not-false}
-use Rattle.terms.specs.declared.answer.Found.TheVariants.{At, Absent}
 use Rattle.terms.specs.declared.answer.Refusal.{Refusal}
 use Rattle.terms.specs.declared.answer.Refusal.TheVariants.{UnknownName, WrongIndex, IndexFull}
-use Rattle.terms.specs.declared.answer.Tested.{Tested}
-use Rattle.terms.specs.declared.answer.Tested.TheVariants.{Fine, Stop}
-use Rattle.terms.specs.declared.answer.Answer.{Answer}
-use Rattle.terms.specs.declared.answer.Answer.TheVariants.{Taken, Refused}
-use Rattle.terms.specs.Answers.{handover, hands_over, done}
+use Rattle.terms.specs.Answers.{handover, hands_over, done, Answer, Tested}
 use Rattle.rules.specs.Sound.{Ledger}
 use Rattle.rules.specs.Calls.{damage_of, test_of, beside_of, unless_stopped}
 use Rattle.rule_laws.proofs.Tested.{ledger_fine, beside_right, beside_fine}
@@ -26,7 +22,7 @@ module _ (w index : List ℕ) where
   abbrev pub beside_index : Tested
   beside_index = beside_of (is_wrong_index index) WrongIndex w
 
-  pub fine_index : beside_index ≡ Fine → Ledger w × (length index ≡ cells)
+  pub fine_index : beside_index ≡ Ok tt → Ledger w × (length index ≡ cells)
   fine_index e =
       let fits = beside_fine (is_wrong_index index) WrongIndex w e in
       (fits.1, eqb-true (length index) cells (not-false _ fits.0))
@@ -39,12 +35,12 @@ module _ (w index : List ℕ) where
         ap (λ b. unless_stopped (beside_of (not b) WrongIndex w) rest) (eq-eqb (length index) cells whole)
         ∙ ap (λ t. unless_stopped t rest) (beside_right WrongIndex w)
 
-    pub stop_index : (r : Refusal) → beside_index ≡ Stop r → index_tested damage_of w index rest ≡ Refused r
+    pub stop_index : (r : Refusal) → beside_index ≡ Err r → index_tested damage_of w index rest ≡ Err r
     unfolding beside_of
     stop_index r e = ap (λ t. unless_stopped t rest) e
 
     -- a call that is stopped leaves every cell
-    pub stop_cells : (after : List ℕ) (r : Refusal) → beside_index ≡ Stop r → hands_over (index_tested damage_of w index rest) w index after ≡ handover (Refused r) w index
+    pub stop_cells : (after : List ℕ) (r : Refusal) → beside_index ≡ Err r → hands_over (index_tested damage_of w index rest) w index after ≡ handover (Err r) w index
     stop_cells after r e = ap (λ a. hands_over a w index after) (stop_index r e)
 
   -- ---- beside a ledger, with an index of the right length
@@ -61,15 +57,15 @@ module _ (w index : List ℕ) where
     unfolding index_enter_call
     enter_room e = rw (index_known _, e)
 
-    pub enter_full : is_full index ≡ true → handover (Refused IndexFull) w index ≡ index_enter_call w index
+    pub enter_full : is_full index ≡ true → handover (Err IndexFull) w index ≡ index_enter_call w index
     unfolding index_enter_call
     enter_full e = rw (index_known _, e)
 
     module _ (name : ℕ) where
-      pub find_known : {i : ℕ} → look_up_in w index name ≡ At i → Taken (pos i) ≡ index_find_call w index name
+      pub find_known : {i : ℕ} → look_up_in w index name ≡ Some i → Ok (pos i) ≡ index_find_call w index name
       unfolding index_find_call
       find_known e = rw (index_known _, e)
 
-      pub find_absent : look_up_in w index name ≡ Absent → Refused UnknownName ≡ index_find_call w index name
+      pub find_absent : look_up_in w index name ≡ None → Err UnknownName ≡ index_find_call w index name
       unfolding index_find_call
       find_absent e = rw (index_known _, e)

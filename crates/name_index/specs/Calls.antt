@@ -1,10 +1,7 @@
 -- CR 6: the calls on an index and the words that it stands beside. None of them changes a word, and looking up changes no cell.
-use Rattle.std.specs.Prelude.{ℕ, Bool, not, cond, List, pos, length, eqb}
-use Rattle.terms.specs.declared.answer.Answer.{Answer}
-use Rattle.terms.specs.declared.answer.Answer.TheVariants.{Taken, Refused}
+use Rattle.std.specs.Prelude.{ℕ, Bool, not, cond, List, pos, length, eqb, Err, Ok}
 use Rattle.terms.specs.declared.answer.Refusal.TheVariants.{WrongIndex, IndexFull}
-use Rattle.terms.specs.declared.answer.Tested.{Tested}
-use Rattle.terms.specs.Answers.{Handover, hands_over, done}
+use Rattle.terms.specs.Answers.{Handover, hands_over, done, Answer, Tested}
 use Rattle.rules.specs.Calls.{damage_of, beside_by, unless_stopped, asked_of}
 use Rattle.name_index.specs.Index.{cells, look_up_in, is_full, newest, with_number, built}
 
@@ -28,7 +25,7 @@ module _ (damage : List ℕ → Tested) where
   abbrev pub enter_answer : (w index : List ℕ) → Answer
   enter_answer w index =
       index_tested w index
-      (cond (is_full index) (Refused IndexFull)
+      (cond (is_full index) (Err IndexFull)
       done)
 
   abbrev pub enter_by : (w index : List ℕ) → Handover
@@ -37,7 +34,7 @@ module _ (damage : List ℕ → Tested) where
   -- ---- look up: then 10, nothing found. The value is the booking's number
 
   abbrev pub find_by : (w index : List ℕ) → ℕ → Answer
-  find_by w index name = index_tested w index (asked_of (look_up_in w index name) (λ i. Taken (pos i)))
+  find_by w index name = index_tested w index (asked_of (look_up_in w index name) (λ i. Ok (pos i)))
 
 -- ---- the calls
 

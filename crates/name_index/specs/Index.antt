@@ -1,9 +1,7 @@
 -- CR 6: the index, 1,024 cells lent beside the ledger. Where probing leads, what a lookup finds by any index, what entering writes, what is built.
-use Rattle.std.specs.Prelude.{ℕ, ◌+◌, ◌-◌, ◌%◌, Bool, ◌&&◌, ◌||◌, not, cond, List, get_or, set, replicate, eqb, ltb}
+use Rattle.std.specs.Prelude.{ℕ, ◌+◌, ◌-◌, ◌%◌, Bool, ◌&&◌, ◌||◌, not, cond, List, get_or, set, replicate, eqb, ltb, None, Option, Some}
 use Rattle.loops.specs.Turns.{up_to}
 use Rattle.loops.specs.Search.{first, all}
-use Rattle.terms.specs.declared.answer.Found.{Found}
-use Rattle.terms.specs.declared.answer.Found.TheVariants.{At, Absent}
 use Rattle.rules.specs.Layout.{bookings, name_of}
 use Rattle.name_index.specs.Hash.{hash_of}
 
@@ -50,11 +48,11 @@ abbrev pub ends_lookup : List ℕ → ℕ → ℕ → Bool
 ends_lookup w name held = is_empty held || is_of w name held
 
 -- the number that a cell holds, if any
-abbrev pub held_number : ℕ → Found
-held_number held = cond (is_empty held) Absent (At held)
+abbrev pub held_number : ℕ → Option ℕ
+held_number held = cond (is_empty held) None (Some held)
 
 -- what a lookup finds by any index of 1,024 cells
-unfoldable pub look_up_in : List ℕ → List ℕ → ℕ → Found
+unfoldable pub look_up_in : List ℕ → List ℕ → ℕ → Option ℕ
 look_up_in w index name = held_number (cell index (probe (ends_lookup w name) index (home name)))
 
 -- ---- entering

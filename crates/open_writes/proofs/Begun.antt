@@ -1,12 +1,14 @@
--- The first j words are those of a newly opened ledger: one more, one entry more, and all of them.
-use Prim.Native.Nat.{ℕ, ◌+◌, ◌<◌}
-use mathlib.Core.Path.{◌≡◌, sym, ap, ◌∙◌}
-use mathlib.Core.List.{List, [], ◌∷◌}
+-- The first j words are those of a newly opened ledger: one more, a part more, one entry more, and all of them.
+use Prim.Native.Nat.{ℕ, zero, suc, ◌+◌, ◌-◌, ◌<◌, ◌≤◌}
+use native.Mathlib.Decide.{dec_lt}
+use mathlib.Core.Path.{◌≡◌, refl, sym, ap, ◌∙◌}
+use mathlib.Core.List.{List, [], ◌∷◌, ◌++◌}
 use native.Mathlib.Nat.{zero-add, not-suc-le-zero}
 use native.Mathlib.Omega.{arith}
 use borrow.Author.Count.{below_more}
-use lib.ListN.{length, get_or, set, length-set}
-use lib.Seq.{get_or-set_same, get_or-set_other, ext_get_or}
+use borrow.Rule.Slice.PartMut.{put_mid, post_of}
+use lib.ListN.{length, get_or, set, replicate, take, length-set, get_or-append}
+use lib.Seq.{get_or-take, get_or-set_same, get_or-set_other, get_or-append_right, length-take-le, ext_get_or}
 use Rattle.terms.specs.declared.setting.Setting.{Setting}
 use Rattle.loops.proofs.Fill.{length_from, get_d_from}
 use Rattle.rules.specs.Layout.{size, slots, slot_words, slot_at, preferred_field, last_field, counter_field, held_field, with_entry}
@@ -27,6 +29,27 @@ begun_more {s} {j} {w} k v q h e b =
           (λ k l. get_or-set_other w j k v 0 (λ q. omega arith) ∙ b.words k l)
           (get_or-set_same w j v 0 h ∙ e);
     }
+
+-- a row of zeros
+pub zero_at : (n i : ℕ) → get_or {A = ℕ} (replicate n 0) i 0 ≡ 0
+zero_at zero i = refl
+zero_at (suc n) zero = refl
+zero_at (suc n) (suc i) = zero_at n i
+
+-- a part that is copied over
+pub begun_part : {s : Setting} {j : ℕ} {w : List ℕ} (at k n : ℕ) (ys : List ℕ)
+    → at ≡ j → n ≡ j + k → n ≤ length w → length ys ≡ k → ((i : ℕ) → i < k → get_or ys i 0 ≡ open_word s (j + i)) → Begun s j w → Begun s n (put_mid at k w ys)
+begun_part {s} {j} {w} at k n ys start e h long part b = rw start record { words = λ i l. go i l (dec_lt i j) }
+  where
+    before : length (take j w) ≡ j
+    before = length-take-le j w (omega arith)
+
+    go : (i : ℕ) → i < n → Dec (i < j) → get_or (put_mid j k w ys) i 0 ≡ open_word s i
+    go i l (yes u) = get_or-append (take j w) _ 0 i (omega (arith, before)) ∙ get_or-take j w i 0 u ∙ b.words i u
+    go i l (no u) =
+        let place : j + (i - j) ≡ i = omega arith in
+        get_or-append_right (take j w) _ i 0 (omega (arith, before)) ∙ ap (λ q. get_or (ys ++ post_of j k w) (i - q) 0) before
+        ∙ get_or-append ys _ 0 (i - j) (omega arith) ∙ part (i - j) (omega arith) ∙ ap (open_word s) place
 
 -- the four words of slot t's entry
 pub begun_entry : {s : Setting} (t : ℕ) {w : List ℕ} (a b c d : ℕ)

@@ -20,7 +20,7 @@ const FIRST_HELD: usize = layout::SLOTS_START + layout::HELD;
 // The genesis is accepted from the start.
 const MARKED: u16 = 1;
 
-// In the order of the words, so that each loop becomes a run of wide stores.
+// In the order of the words, so that each part becomes a run of wide stores.
 pub fn write_open(w: &mut [u16], s: Setting)
     requires { length w.old ≡ size }
     ensures { w.new ≡ opened s }
@@ -49,15 +49,11 @@ pub fn write_open(w: &mut [u16], s: Setting)
         0,
         MARKED,
     ];
-    for j in 0..FIRST_WORDS {
-        w[j] = first[j];
-    }
+    w[..FIRST_WORDS].copy_from_slice(&first);
     // the other records, and slot 0, whose preferred and last booking is the genesis
-    for j in FIRST_WORDS..FIRST_HELD {
-        w[j] = 0;
-    }
+    w[FIRST_WORDS..FIRST_HELD].fill(0);
     w[FIRST_HELD] = 1;
-    // the other slots are empty
+    // the other slots are empty; word by word, since a copy for each entry takes four times as long
     for t in 1..layout::SLOTS {
         let at = layout::SLOTS_START + layout::SLOT_WORDS * t;
         w[at + layout::PREFERRED] = layout::NONE;

@@ -2,3 +2,4 @@
 pub mod Raising
 pub mod Settling
 pub mod Clearing
+pub mod Walk

@@ -5,4 +5,5 @@
 pub mod clearing;
 pub mod raising;
 pub mod settling;
+pub mod walk;
 pub mod writing;

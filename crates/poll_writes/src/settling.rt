@@ -1,10 +1,12 @@
 // Each member is settled in its slot: first the preference, then the last booking and the counter.
-ghost use Rattle.std.specs.Prelude.{◌≡◌, List, ℕ, ◌<◌, length};
+ghost use Rattle.std.specs.Prelude.{◌≡◌, ◌<◌, length};
 ghost use Rattle.rules.specs.Layout.{most_bookings, slot_of};
-ghost use Rattle.rules.specs.Poll.{prefer, follow, settle_one, settled};
-ghost use Rattle.bits.specs.Members.{bit_words, members_in, MemberIn};
+ghost use Rattle.rules.specs.Poll.{prefer, follow, settled};
+ghost use Rattle.bits.specs.Members.{bit_words, members_in};
 ghost use Rattle.poll_writes.specs.Settling.{Settleable, Settling};
 
+use crate::walk;
+use crate::walk::Task;
 use rules::layout;
 use terms::edition;
 
@@ -37,30 +39,32 @@ fn follow_one(w: &mut [u16], s: usize, j: usize)
     }
 }
 
-// Both for j, in this order, if it is a member, where word has its bit.
-fn settle_one(w: &mut [u16], word: u64, j: usize)
+// Both for j, in this order.
+fn settle_one(w: &mut [u16], j: usize)
     requires { Settleable w.old (slot_of w.old j) × (j < most_bookings) }
-    ensures { (m : List ℕ) → MemberIn word m j → w.new ≡ settle_one m j w.old }
+    ensures { w.new ≡ follow (slot_of w.old j) j (prefer (slot_of w.old j) j w.old) }
 {
-    if bits::has_bit(word, j % bits::WORD_BITS) {
-        let s = words::wide_field(w, j, layout::SLOT);
-        prefer_one(w, s, j);
-        follow_one(w, s, j);
+    let s = words::wide_field(w, j, layout::SLOT);
+    prefer_one(w, s, j);
+    follow_one(w, s, j);
+}
+
+struct Settles;
+
+impl Task for Settles {
+    ghost done = { λ j w. follow (slot_of w j) j (prefer (slot_of w j) j w) };
+
+    ghost ready = { λ w j. Settleable w (slot_of w j) × (j < most_bookings) };
+
+    fn act(w: &mut [u16], j: usize) {
+        settle_one(w, j);
     }
 }
 
-// Each member below n in rising number. A word of members is loaded once for its numbers.
+// Each member below n in rising number.
 pub fn settle(w: &mut [u16], members: &[u64], n: usize)
     requires { Settling w.old n × (length members.now ≡ bit_words) }
     ensures { w.new ≡ settled (members_in members.now) n w.old }
 {
-    let mut j = 0;
-    while j < n {
-        let word = members[j / bits::WORD_BITS];
-        let end = bits::word_end(j, n);
-        while j < end {
-            settle_one(w, word, j);
-            j += 1;
-        }
-    }
+    walk::walk::<Settles>(w, members, n);
 }

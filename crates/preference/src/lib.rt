@@ -2,7 +2,6 @@
 #![tactic(auto)]
 
 ghost use Rattle.std.specs.Prelude.{◌≡◌, ◌<◌, eqb};
-ghost use Rattle.loops.specs.Search.{first};
 ghost use Rattle.rules.specs.Layout.{slot_words, bookings, slot_of, entry};
 ghost use Rattle.rules.specs.Sound.{Ledger};
 ghost use Rattle.rules.specs.Readings.{is_preferred, is_last, query_of};
@@ -44,20 +43,6 @@ fn is_in_the_way(w: &[u16], m: &[u64], j: usize) -> bool
     bits::is_set(m, j) & !is_preferred(w, j)
 }
 
-// The lowest such booking, or how many bookings there are.
-fn first_in_the_way(w: &[u16], m: &[u64]) -> usize
-    requires { Ledger w.now }
-    ensures { result ≡ first (in_the_way w.now (members_in m.now)) (bookings w.now) }
-{
-    let n = booking::how_many(w);
-    for j in 0..n {
-        if is_in_the_way(w, m, j) {
-            return j;
-        }
-    }
-    n
-}
-
 // The query of booking i: none of its ancestry is in the way.
 pub fn query_of(w: &[u16], i: usize) -> bool
     requires { Ledger w.now × (i < bookings w.now) }
@@ -65,5 +50,5 @@ pub fn query_of(w: &[u16], i: usize) -> bool
 {
     let mut m = [0u64; bits::BIT_WORDS];
     ancestry::gather_ancestry(w, &mut m, i);
-    first_in_the_way(w, &m) == booking::how_many(w)
+    !(0..booking::how_many(w)).any(|j| is_in_the_way(w, &m, j))
 }

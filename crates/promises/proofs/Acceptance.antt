@@ -1,4 +1,5 @@
 -- No two bookings of a slot are accepted: a sound workspace has at most one mark in a slot. Assumes nothing.
+use Rattle.std.specs.Prelude.{Ok}
 use mathlib.Core.Path.{◌≡◌, refl, ap}
 use mathlib.Core.Bool.{Bool, true, false}
 use mathlib.Core.List.{List}
@@ -8,7 +9,6 @@ use native.Mathlib.Decide.{ℕ_discrete}
 use lib.IntN.{pos, nat_abs}
 use borrow.Author.Tests.{eqb-true}
 use Rattle.loops.specs.Total.{bit}
-use Rattle.terms.specs.declared.answer.Answer.TheVariants.{Taken}
 use Rattle.rules.specs.Layout.{bookings, slot_of, name_of, mark_of}
 use Rattle.rules.specs.Readings.{accepted_of}
 use Rattle.rules.specs.Book.{look_up, number_of}
@@ -36,7 +36,7 @@ bit_one true e = refl
 bit_one false e = absurd (omega arith)
 
 -- a 1 is answered of an accepted booking of a ledger
-pub answered_one : (w : List ℕ) (i : ℕ) → i < bookings w → accepted_call w (name_of w i) ≡ Taken (pos 1) → Ledger w × (accepted_of w i ≡ true)
+pub answered_one : (w : List ℕ) (i : ℕ) → i < bookings w → accepted_call w (name_of w i) ≡ Ok (pos 1) → Ledger w × (accepted_of w i ≡ true)
 answered_one w i h e =
     let taken = reading_taken (λ k. pos (bit (accepted_of w k))) w (name_of w i) (pos 1) e in
     let number : number_of (look_up w (name_of w i)) ≡ i = ap number_of (found_is w taken.0.sound i h) in

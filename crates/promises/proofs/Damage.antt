@@ -1,5 +1,6 @@
 -- The value with 14 and 15 is the lowest row that breaks a rule: the test searches the rows from 0 on, and nothing after the test gives these numbers.
 -- Rests on specs/Damage.antt and on the laws of rows and of searches. Assumes nothing.
+use Rattle.std.specs.Prelude.{Err, None, Option, Some}
 use mathlib.Core.Path.{◌≡◌, refl, sym, ◌∙◌}
 use mathlib.Core.Bool.{Bool, true, false, not, ◌&&◌, cond, true≢false}
 use mathlib.Core.List.{List}
@@ -13,12 +14,8 @@ use Rattle.loops.specs.Search.{first}
 use Rattle.loops.proofs.Bools.{and_left, and_right}
 use Rattle.loops.proofs.Search.{→all, first_le, first_hit, first_before}
 use Rattle.terms.specs.declared.setting.Setting.{Setting}
-use Rattle.terms.specs.declared.answer.Found.{Found}
-use Rattle.terms.specs.declared.answer.Found.TheVariants.{At, Absent}
 use Rattle.terms.specs.declared.answer.Refusal.TheVariants.{WrongLength, DamagedHeader, DamagedRecord, DamagedSlot, WrongIndex}
-use Rattle.terms.specs.declared.answer.Answer.{Answer}
-use Rattle.terms.specs.declared.answer.Answer.TheVariants.{Refused}
-use Rattle.terms.specs.Answers.{number, value, done}
+use Rattle.terms.specs.Answers.{number, value, done, Answer}
 use Rattle.rules.specs.Layout.{size, slots}
 use Rattle.rules.specs.IsSound.{header_good, record_row, record_rows, bad_record, slot_good, bad_slot}
 use Rattle.rules.specs.RowRules.{RecordRules, SlotRules}
@@ -83,9 +80,9 @@ both_true : (t : Bool) → cond t true true ≡ true
 both_true true = refl
 both_true false = refl
 
-other_asked : (f : Found) (rest : ℕ → Answer) → ((i : ℕ) → is_other (rest i) ≡ true) → is_other (asked_of f rest) ≡ true
-other_asked (At i) rest other = other i
-other_asked Absent rest other = refl
+other_asked : (f : Option ℕ) (rest : ℕ → Answer) → ((i : ℕ) → is_other (rest i) ≡ true) → is_other (asked_of f rest) ≡ true
+other_asked (Some i) rest other = other i
+other_asked None rest other = refl
 
 module _ (w : List ℕ) where
   other_names : (a : Answer) → is_other a ≡ true → NamesDamage w (number a) (value a)
@@ -103,18 +100,18 @@ module _ (w : List ℕ) where
     where
       answer : (long header records entries : Bool) → Answer
       answer long header records entries =
-          cond long (Refused WrongLength)
-          (cond header (Refused DamagedHeader)
-          (cond records (Refused (DamagedRecord (bad_record w)))
-          (cond entries (Refused (DamagedSlot (bad_slot w)))
+          cond long (Err WrongLength)
+          (cond header (Err DamagedHeader)
+          (cond records (Err (DamagedRecord (bad_record w)))
+          (cond entries (Err (DamagedSlot (bad_slot w)))
           rest)))
 
       go : (long header records entries : Bool)
           → (records ≡ true → Lowest (RecordRules w) record_rows (bad_record w))
           → (entries ≡ true → Lowest (SlotRules w) slots (bad_slot w))
           → NamesDamage w (number (answer long header records entries)) (value (answer long header records entries))
-      go true header records entries broken bad = other_names (Refused WrongLength) refl
-      go false true records entries broken bad = other_names (Refused DamagedHeader) refl
+      go true header records entries broken bad = other_names (Err WrongLength) refl
+      go false true records entries broken bad = other_names (Err DamagedHeader) refl
       go false false true entries broken bad = record { damaged_record = λ q. (bad_record w, refl, broken refl); damaged_slot = λ q. absurd (omega arith) }
       go false false false true broken bad = record { damaged_record = λ q. absurd (omega arith); damaged_slot = λ q. (bad_slot w, refl, bad refl) }
       go false false false false broken bad = other_names rest other
@@ -158,7 +155,7 @@ unfolding beside_of
 index_names w index rest other = go (is_wrong_index index)
   where
     go : (is_wrong : Bool) → let a = unless_stopped (beside_of is_wrong WrongIndex w) rest in NamesDamage w (number a) (value a)
-    go true = rw (beside_in_order true WrongIndex w rest) (other_names w (cond (not (eqb (length w) size)) (Refused WrongLength) (Refused WrongIndex)) (simp (other_cond, both_true)))
+    go true = rw (beside_in_order true WrongIndex w rest) (other_names w (cond (not (eqb (length w) size)) (Err WrongLength) (Err WrongIndex)) (simp (other_cond, both_true)))
     go false = rw (beside_right WrongIndex w) (tested_names w rest other)
 
 build_names : (w index : List ℕ) → NamesDamage w (number (index_build_call w index).answer) (value (index_build_call w index).answer)

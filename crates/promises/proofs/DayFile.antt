@@ -1,6 +1,7 @@
 -- The promises of the day file: what the call leaves, by its cases; the first form's length; and what two ledgers of the same day have in common, from the laws of
 -- day_file/proofs. SecondForm.antt has those that rest on the marks too.
 -- Rests on specs/DayFile.antt. Assumes nothing.
+use Rattle.std.specs.Prelude.{Err, Ok}
 use mathlib.Core.Path.{◌≡◌, refl, sym, ap, ◌∙◌}
 use mathlib.Core.Bool.{Bool, true, false, cond}
 use mathlib.Core.List.{List}
@@ -16,11 +17,7 @@ use Rattle.loops.proofs.Search.{first_from_same}
 use Rattle.loops.proofs.Fill.{from_agree}
 use Rattle.terms.specs.declared.form.Form.{Form}
 use Rattle.terms.specs.declared.answer.Refusal.TheVariants.{ShortBuffer}
-use Rattle.terms.specs.declared.answer.Tested.{Tested}
-use Rattle.terms.specs.declared.answer.Tested.TheVariants.{Fine, Stop}
-use Rattle.terms.specs.declared.answer.Answer.{Answer}
-use Rattle.terms.specs.declared.answer.Answer.TheVariants.{Taken, Refused}
-use Rattle.terms.specs.Answers.{number, value, hands_over}
+use Rattle.terms.specs.Answers.{number, value, hands_over, Answer, Tested}
 use Rattle.rules.specs.Layout.{record_at, bookings, polls, ordinal_of}
 use Rattle.rules.specs.Sound.{Ledger}
 use Rattle.rules.specs.Calls.{test_of, unless_stopped}
@@ -56,14 +53,14 @@ file_written form w buffer taken = go (test_of w) (ltb (length buffer) (length (
   where
     -- by what the test says, and by whether the buffer is short
     answer : Tested → Bool → Answer
-    answer t short = unless_stopped t (cond short (Refused ShortBuffer) (Taken (pos (length (file_of form w)))))
+    answer t short = unless_stopped t (cond short (Err ShortBuffer) (Ok (pos (length (file_of form w)))))
 
     go : (t : Tested) (short : Bool) → ltb (length buffer) (length (file_of form w)) ≡ short
         → let o = hands_over (answer t short) w buffer (laid (file_of form w) buffer) in number o.answer ≡ 0
         → Written (file_of form w) buffer (value o.answer) o.lent × (o.words ≡ w)
-    go (Stop r) short e h = absurd (number_refused r h)
-    go Fine true e h = absurd (number_refused ShortBuffer h)
-    go Fine false e h = (laid_written (file_of form w) buffer (ltb-false (length buffer) (length (file_of form w)) e), refl)
+    go (Err r) short e h = absurd (number_refused r h)
+    go (Ok tt) true e h = absurd (number_refused ShortBuffer h)
+    go (Ok tt) false e h = (laid_written (file_of form w) buffer (ltb-false (length buffer) (length (file_of form w)) e), refl)
 
 pub file_taken : FileTaken
 unfolding FileTaken write_file_call

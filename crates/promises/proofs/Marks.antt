@@ -1,5 +1,6 @@
 -- An acceptance stays, and is earned: every call but a poll leaves the marks as they are, or makes a new ledger; a poll's outcome changes none, and then
 -- the pass over the marks takes none away and gives those that are earned. Assumes nothing.
+use Rattle.std.specs.Prelude.{Ok, Some}
 use mathlib.Core.Path.{◌≡◌, refl, sym, ap, subst, ◌∙◌}
 use mathlib.Core.Bool.{Bool, true, false, true≢false}
 use mathlib.Core.List.{List, [], ◌∷◌}
@@ -9,8 +10,6 @@ use native.Mathlib.Omega.{arith}
 use lib.IntN.{pos, nat_abs}
 use borrow.Author.Tests.{eq-eqb, eqb-true, eqb-false}
 use Rattle.loops.specs.Total.{bit}
-use Rattle.terms.specs.declared.answer.Found.TheVariants.{At}
-use Rattle.terms.specs.declared.answer.Answer.TheVariants.{Taken}
 use Rattle.terms.specs.Answers.{is_taken}
 use Rattle.rules.specs.Layout.{most_bookings, bookings, name_of, mark_of}
 use Rattle.rules.specs.Readings.{accepted_of}
@@ -124,7 +123,7 @@ unfolding AcceptedStays
 accepted_stays c w n l i u a = eq-eqb _ 1 (mark_kept c w n l i u (eqb-true (mark_of w i) 1 a))
 
 -- by name: it is found at the same number, since bookings last
-call_stays : (c : Call) (w : List ℕ) (name : ℕ) → renews c w ≡ false → accepted_call w name ≡ Taken (pos 1) → accepted_call (outcome_of c w).words name ≡ Taken (pos 1)
+call_stays : (c : Call) (w : List ℕ) (name : ℕ) → renews c w ≡ false → accepted_call w name ≡ Ok (pos 1) → accepted_call (outcome_of c w).words name ≡ Ok (pos 1)
 unfolding AcceptedStays
 call_stays c w name n e =
     let asked = reading_taken (λ k. pos (bit (accepted_of w k))) w name (pos 1) e in
@@ -133,9 +132,9 @@ call_stays c w name n e =
     let kept = call_kept c w n asked.0 in
     let u : List ℕ = (outcome_of c w).words in
     let named : name_of u i ≡ name = kept.grown.name i below ∙ found_name w name i asked.1 in
-    let found : look_up u name ≡ At i = ap (look_up u) (sym named) ∙ found_is u kept.ledger.sound i (omega (arith, kept.grown.more)) in
+    let found : look_up u name ≡ Some i = ap (look_up u) (sym named) ∙ found_is u kept.ledger.sound i (omega (arith, kept.grown.more)) in
     let accepted = accepted_stays c w n asked.0 i below (bit_one (accepted_of w i) (ap nat_abs asked.2)) in
-    reading_found (λ k. pos (bit (accepted_of u k))) u name kept.ledger i found ∙ ap (λ b. Taken (pos (bit b))) accepted
+    reading_found (λ k. pos (bit (accepted_of u k))) u name kept.ledger i found ∙ ap (λ b. Ok (pos (bit b))) accepted
 
 pub accepted_call_stays : AcceptedCallStays
 unfolding AcceptedCallStays NoneRenews run

@@ -1,4 +1,5 @@
 -- The promises of moving a file to the other form. Rests on specs/MoveFile.antt. Assumes nothing.
+use Rattle.std.specs.Prelude.{Ok}
 use mathlib.Core.Path.{◌≡◌, refl, sym, ap, ap₂, subst, ◌∙◌}
 use mathlib.Core.Bool.{Bool, true, false, not, true≢false}
 use mathlib.Core.List.{List, [], ◌++◌}
@@ -12,7 +13,6 @@ use borrow.Author.Tests.{not-true, not-false}
 use Rattle.terms.specs.declared.form.Form.{Form}
 use Rattle.terms.specs.declared.form.Form.TheVariants.{First, Second}
 use Rattle.terms.specs.Answers.{number, value, outcome, done}
-use Rattle.terms.specs.declared.answer.Answer.TheVariants.{Taken}
 use Rattle.rules.specs.Layout.{size, bookings}
 use Rattle.rules.specs.Sound.{Ledger}
 use Rattle.rule_laws.proofs.ButMarks.{many_same}

@@ -1,16 +1,12 @@
 -- The promises of the name index, from the laws of probing and of the built index. Assumes nothing.
+use Rattle.std.specs.Prelude.{Err, Ok, Some}
 use mathlib.Core.Path.{◌≡◌, refl, sym, ap, ◌∙◌}
 use mathlib.Core.Bool.{Bool, true, false, cond, true≢false}
 use mathlib.Core.List.{List, [], ◌∷◌}
 use Prim.Native.Nat.{ℕ, ◌+◌}
 use native.Mathlib.Omega.{arith}
 use lib.IntN.{pos}
-use Rattle.terms.specs.declared.answer.Found.TheVariants.{At}
-use Rattle.terms.specs.declared.answer.Tested.{Tested}
-use Rattle.terms.specs.declared.answer.Tested.TheVariants.{Fine, Stop}
-use Rattle.terms.specs.declared.answer.Answer.{Answer}
-use Rattle.terms.specs.declared.answer.Answer.TheVariants.{Taken}
-use Rattle.terms.specs.Answers.{is_taken, done, handover}
+use Rattle.terms.specs.Answers.{is_taken, done, handover, Answer, Tested}
 use Rattle.rules.specs.Layout.{bookings, name_of}
 use Rattle.rules.specs.Book.{look_up, number_of}
 use Rattle.rules.specs.Sound.{Ledger}
@@ -63,11 +59,11 @@ unfolding BuiltFinds index_find_call
 built_finds w name = index_tested_lem w (built w) _ (built_whole w) ∙ go (test_of w) refl
   where
     found : List ℕ → Answer
-    found index = asked_of (look_up_in w index name) (λ i. Taken (pos i))
+    found index = asked_of (look_up_in w index name) (λ i. Ok (pos i))
 
-    go : (t : Tested) → test_of w ≡ t → unless_stopped t (found (built w)) ≡ unless_stopped t (asked_of (look_up w name) (λ i. Taken (pos i)))
-    go Fine fine = ap (λ f. asked_of f (λ i. Taken (pos i))) (built_look_up w name (fine_ledger w fine).sound)
-    go (Stop r) stopped = refl
+    go : (t : Tested) → test_of w ≡ t → unless_stopped t (found (built w)) ≡ unless_stopped t (asked_of (look_up w name) (λ i. Ok (pos i)))
+    go (Ok tt) fine = ap (λ f. asked_of f (λ i. Ok (pos i))) (built_look_up w name (fine_ledger w fine).sound)
+    go (Err r) stopped = refl
 
 pub built_numbers : BuiltNumbers
 unfolding BuiltNumbers BuiltFinds
@@ -78,7 +74,7 @@ unfolding ProbingFinds
 probing_finds w index name ledger whole m =
     let there = cell index (tried (home name) m.others) in
     let found = met_found w index name m ledger.sound.bookings_most in
-    let plain : look_up w name ≡ At there = ap (look_up w) (sym m.named) ∙ found_is w ledger.sound there m.below in
+    let plain : look_up w name ≡ Some there = ap (look_up w) (sym m.named) ∙ found_is w ledger.sound there m.below in
     let same = sym (found_plain w index name _ ledger.sound whole found) ∙ plain in
     sym (find_known w index ledger whole name (found ∙ same))
 

@@ -1,5 +1,6 @@
 -- Every number answered lies in its range: a refused call has value 0 or a row, and a taken reading is that of a booking of a sound workspace.
 -- Rests on the bounds of the readings. Assumes nothing.
+use Rattle.std.specs.Prelude.{Err, Ok}
 use mathlib.Core.Path.{◌≡◌, refl, ap, subst}
 use mathlib.Core.List.{List}
 use mathlib.Core.Logic.{◌≢◌}
@@ -9,9 +10,7 @@ use native.Mathlib.Omega.{arith}
 use lib.IntN.{ℤ, pos, nat_abs}
 use lib.ListN.{length}
 use Rattle.loops.specs.Total.{bit}
-use Rattle.terms.specs.declared.answer.Answer.{Answer}
-use Rattle.terms.specs.declared.answer.Answer.TheVariants.{Taken, Refused}
-use Rattle.terms.specs.Answers.{number, value}
+use Rattle.terms.specs.Answers.{number, value, Answer}
 use Rattle.rules.specs.Layout.{bookings, setting_in, confidence_of}
 use Rattle.rules.specs.Readings.{query_of, accepted_of, lead_of, size_of}
 use Rattle.rules.specs.Book.{look_up, number_of}
@@ -38,8 +37,8 @@ use Rattle.promises.proofs.Forms.{made_ledger}
 use Rattle.promises.proofs.MoveFile.{moved_is}
 
 number_le : (a : Answer) → number a ≤ 27
-number_le (Taken v) = omega arith
-number_le (Refused r) = (refusal_number_within r).1
+number_le (Ok v) = omega arith
+number_le (Err r) = (refusal_number_within r).1
 
 between : (least most n : ℕ) → least ≤ n → n ≤ most → Between least most (pos n)
 between least most n l u = record { number = n; is = refl; above = l; below = u }
@@ -65,10 +64,10 @@ module _ (P : ℤ → Type 0) (f : ℕ → ℤ) (w : List ℕ) (name : ℕ) (hol
   value_taken = go (reading_call f w name) refl
     where
       go : (a : Answer) → reading_call f w name ≡ a → number a ≡ 0 → P (value a)
-      go (Taken v) e z =
+      go (Ok v) e z =
           let taken = reading_taken f w name v e in
           subst P taken.2 (holds (number_of (look_up w name)) taken.0 (found_below_lem w name _ taken.1))
-      go (Refused r) e z = absurd (number_refused r z)
+      go (Err r) e z = absurd (number_refused r z)
 
 -- a number up to the most
 value_most : (most : ℕ) (g : ℕ → ℕ) (w : List ℕ) (name : ℕ) → ((i : ℕ) → Ledger w → i < bookings w → g i ≤ most)

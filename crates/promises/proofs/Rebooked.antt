@@ -1,5 +1,6 @@
 -- What one more booking of a day's replay leaves, where it is taken: each parent's number is found again by its name, so the words are those with the numbers
 -- themselves; they are a ledger, and its day has that booking more. Assumes nothing.
+use Rattle.std.specs.Prelude.{Err, Some}
 use mathlib.Core.Path.{◌≡◌, refl, sym, ap, subst, ◌∙◌}
 use mathlib.Core.Bool.{Bool, true, false, cond, true≢false}
 use mathlib.Core.List.{List, [], ◌∷◌, ◌++◌}
@@ -13,8 +14,6 @@ use borrow.Author.Tests.{ltb-true, lt-ltb, le-ltb, eq-eqb, ne_eqb}
 use Rattle.loops.specs.Fill.{from}
 use Rattle.loops.proofs.Search.{all→, first_ends}
 use Rattle.loops.proofs.Fill.{length_from, get_d_from, from_more, from_agree, from_elements}
-use Rattle.terms.specs.declared.answer.Found.TheVariants.{At}
-use Rattle.terms.specs.declared.answer.Answer.TheVariants.{Refused}
 use Rattle.terms.specs.declared.answer.Refusal.{Refusal}
 use Rattle.terms.specs.declared.answer.Refusal.TheVariants.{UnknownParent}
 use Rattle.terms.specs.Answers.{Outcome, outcome, is_taken}
@@ -45,7 +44,7 @@ module _ (w : List ℕ) (sound : Sound w) (numbers : List ℕ) (known : are_book
   pub number_below : (a : ℕ) → a < length numbers → get_or numbers a 0 < bookings w
   number_below a u = ltb-true _ _ (all→ (λ a. ltb (get_or numbers a 0) (bookings w)) (length numbers) known a u)
 
-  pub number_found : (a : ℕ) → a < length numbers → parent_found w (names_of w numbers) a ≡ At (get_or numbers a 0)
+  pub number_found : (a : ℕ) → a < length numbers → parent_found w (names_of w numbers) a ≡ Some (get_or numbers a 0)
   number_found a u =
       ap (look_up w) (rw zero-add at (get_d_from (λ a. name_of w (get_or numbers a 0)) 0 (length numbers) a u))
       ∙ found_is w sound (get_or numbers a 0) (number_below a u)
@@ -68,8 +67,8 @@ module _ (w : List ℕ) (sound : Sound w) (numbers : List ℕ) (known : are_book
 -- ---- a taken one
 
 -- one of two outcomes, of which the second is a refusal
-pub taken_cond : (t : Bool) (o : Outcome) (r : Refusal) (w : List ℕ) → is_taken (cond t o (outcome (Refused r) w)).answer ≡ true
-    → (t ≡ true) × (cond t o (outcome (Refused r) w) ≡ o)
+pub taken_cond : (t : Bool) (o : Outcome) (r : Refusal) (w : List ℕ) → is_taken (cond t o (outcome (Err r) w)).answer ≡ true
+    → (t ≡ true) × (cond t o (outcome (Err r) w) ≡ o)
 taken_cond true o r w e = (refl, refl)
 taken_cond false o r w e = absurd (true≢false (sym e))
 

@@ -1,5 +1,6 @@
 -- Each refusal comes exactly in its listed case: every test of a call tells its case, and one law reads a line of the list off a test.
 -- Rests on specs/Refusals.antt and on the laws that join tests to statements. Assumes nothing.
+use Rattle.std.specs.Prelude.{Err, None, Option, Some}
 use mathlib.Core.Path.{◌≡◌, refl, sym, ap, ◌∙◌}
 use mathlib.Core.Bool.{Bool, true, false, not, ◌||◌, cond, true≢false}
 use mathlib.Core.List.{List}
@@ -13,13 +14,9 @@ use borrow.Author.Tests.{eqb-true, eq-eqb, leb-true, le-leb, ltb-true, lt-ltb, n
 use Rattle.loops.specs.Search.{all, any}
 use Rattle.loops.proofs.Search.{any→, →any, not_all}
 use Rattle.terms.specs.declared.setting.Setting.{Setting}
-use Rattle.terms.specs.declared.answer.Found.{Found}
-use Rattle.terms.specs.declared.answer.Found.TheVariants.{At, Absent}
 use Rattle.terms.specs.declared.answer.Refusal.{Refusal}
-use Rattle.terms.specs.declared.answer.Answer.{Answer}
-use Rattle.terms.specs.declared.answer.Answer.TheVariants.{Refused}
 use Rattle.terms.specs.declared.vote.Vote.{Vote}
-use Rattle.terms.specs.Answers.{refusal_number, number, value, done}
+use Rattle.terms.specs.Answers.{refusal_number, number, value, done, Answer}
 use Rattle.rules.specs.Layout.{size, slots, most_parents, most_bookings, bookings, setting_in, state_of}
 use Rattle.terms.specs.Setting.{Good, is_good}
 use Rattle.rules.specs.IsSound.{header_good, record_row, record_rows, bad_record, slot_good, bad_slot}
@@ -55,7 +52,7 @@ use Rattle.rules.specs.Calls.{
 use Rattle.name_index.specs.Index.{cells, look_up_in, is_full, newest, with_number, built}
 use Rattle.name_index.specs.AsRead.{NameMet, NoneEmpty}
 use Rattle.name_index.specs.Calls.{is_wrong_index, index_tested, enter_answer, index_build_call, index_enter_call, index_find_call}
-use Rattle.name_index.proofs.Probing.{full→none, none→full, At_absent, met_found, found_met}
+use Rattle.name_index.proofs.Probing.{full→none, none→full, some_none, met_found, found_met}
 use Rattle.rule_laws.proofs.Calls.{leaves_answer, hands_over_answer, value_refused, open_refused, book_refused, poll_refused}
 use Rattle.rule_laws.proofs.Good.{is_good→Good, Good→isGood}
 use Rattle.rule_laws.proofs.RowRules.{header_good→Rules, Rules→headerGood, record_row→Rules, Rules→recordRow, slot_good→Rules, Rules→slotGood}
@@ -178,17 +175,17 @@ bad_decides s = not_decides (is_good s) (decides_by (is_good→Good s) (Good→i
 found_decides : (w : List ℕ) (name : ℕ) → Decides (is_found (look_up w name)) (Booked w name)
 found_decides w name = go (look_up w name) refl
   where
-    go : (f : Found) → look_up w name ≡ f → Decides (is_found f) (Booked w name)
-    go (At i) e = decides_by (λ t. record { booking = i; below = found_below_lem w name i e; named = found_name w name i e }) (λ b. refl)
-    go Absent e = decides_by (λ t. absurd (true≢false (sym t))) (λ b. absurd (absent_name w name e b.booking b.below b.named))
+    go : (f : Option ℕ) → look_up w name ≡ f → Decides (is_found f) (Booked w name)
+    go (Some i) e = decides_by (λ t. record { booking = i; below = found_below_lem w name i e; named = found_name w name i e }) (λ b. refl)
+    go None e = decides_by (λ t. absurd (true≢false (sym t))) (λ b. absurd (absent_name w name e b.booking b.below b.named))
 
 -- 7
 absent_decides : (w : List ℕ) (name : ℕ) → Decides (is_absent (look_up w name)) (Booked w name → ⊥)
 absent_decides w name = go (look_up w name) (found_decides w name)
   where
-    go : (f : Found) → Decides (is_found f) (Booked w name) → Decides (is_absent f) (Booked w name → ⊥)
-    go (At i) tells = not_decides true tells
-    go Absent tells = not_decides false tells
+    go : (f : Option ℕ) → Decides (is_found f) (Booked w name) → Decides (is_absent f) (Booked w name → ⊥)
+    go (Some i) tells = not_decides true tells
+    go None tells = not_decides false tells
 
 unknown_decides : (w parents : List ℕ) → Decides (has_unknown w parents) (UnknownParent w parents)
 unfolding has_unknown
@@ -210,7 +207,7 @@ twice_decides parents =
     (p.later, p.within, again))
 
 -- 11: on a sound workspace the booking found is the one with the name
-waiting_decides : (w : List ℕ) → Sound w → (name i : ℕ) → look_up w name ≡ At i → Decides (not (eqb (state_of w i) 0)) (NotWaiting w name)
+waiting_decides : (w : List ℕ) → Sound w → (name i : ℕ) → look_up w name ≡ Some i → Decides (not (eqb (state_of w i) 0)) (NotWaiting w name)
 waiting_decides w sound name i e = decides_by
     (λ t. record { booking = i; below = found_below_lem w name i e; named = found_name w name i e; state = (differs_decides _ _).passes t })
     (λ n.
@@ -244,16 +241,16 @@ vote_decides votes =
 -- ---- a line of the list, off a test: the number is the refusal's where the test passes, and else the rest's
 
 module _ {n : ℕ} {later : Type 0} where
-  refused_first : (r : Refusal) (t : Bool) (rest : Answer) {applies : Type 0} → n ≡ number (cond t (Refused r) rest) → Decides t applies
+  refused_first : (r : Refusal) (t : Bool) (rest : Answer) {applies : Type 0} → n ≡ number (cond t (Err r) rest) → Decides t applies
       → (t ≡ false → n ≡ number rest → later) → refuses (refusal_number r) applies (λ k. later) n
   refused_first r true rest e tells onward = inl (tells.passes refl, e)
   refused_first r false rest e tells onward = inr (tells.fails refl, onward refl e)
 
   -- 10, and what follows it knows the number found
-  asked_first : (f : Found) (rest : ℕ → Answer) {known : Type 0} → n ≡ number (asked_of f rest) → Decides (is_found f) known
-      → ((i : ℕ) → f ≡ At i → n ≡ number (rest i) → later) → refuses (refusal_number Refusal.UnknownName) (known → ⊥) (λ k. later) n
-  asked_first (At i) rest e tells onward = inr (λ d. d (tells.passes refl), onward i refl e)
-  asked_first Absent rest e tells onward = inl (tells.fails refl, e)
+  asked_first : (f : Option ℕ) (rest : ℕ → Answer) {known : Type 0} → n ≡ number (asked_of f rest) → Decides (is_found f) known
+      → ((i : ℕ) → f ≡ Some i → n ≡ number (rest i) → later) → refuses (refusal_number Refusal.UnknownName) (known → ⊥) (λ k. later) n
+  asked_first (Some i) rest e tells onward = inr (λ d. d (tells.passes refl), onward i refl e)
+  asked_first None rest e tells onward = inl (tells.fails refl, e)
 
 module _ {n : ℕ} {later : Type 0} (w : List ℕ) (rest : Answer) where
   -- 2, 14 and 15, and what follows them knows that the workspace is sound
@@ -371,9 +368,9 @@ enter_listed w index =
 met_decides : (w index : List ℕ) (name : ℕ) → Sound w → length index ≡ cells → Decides (is_found (look_up_in w index name)) (NameMet w index name)
 met_decides w index name sound whole = go (look_up_in w index name) refl
   where
-    go : (f : Found) → look_up_in w index name ≡ f → Decides (is_found f) (NameMet w index name)
-    go (At i) e = decides_by (λ t. found_met w index name i whole e) (λ m. refl)
-    go Absent e = decides_by (λ t. absurd (true≢false (sym t))) (λ m. absurd (At_absent _ (sym (met_found w index name m sound.bookings_most) ∙ e)))
+    go : (f : Option ℕ) → look_up_in w index name ≡ f → Decides (is_found f) (NameMet w index name)
+    go (Some i) e = decides_by (λ t. found_met w index name i whole e) (λ m. refl)
+    go None e = decides_by (λ t. absurd (true≢false (sym t))) (λ m. absurd (some_none _ (sym (met_found w index name m sound.bookings_most) ∙ e)))
 
 find_listed : (w index : List ℕ) (name : ℕ) → FindListed w index name (number (index_find_call w index name))
 unfolding index_find_call

@@ -1,5 +1,6 @@
 -- A day's replay is taken exactly if the day keeps its rules. Taken, its words hold the day, and the day of a ledger keeps them; and where they are kept each
 -- call in turn finds its tests passed, by the day that the words hold so far. Assumes nothing.
+use Rattle.std.specs.Prelude.{None, Some}
 use mathlib.Core.Path.{◌≡◌, refl, sym, ap, ◌∙◌}
 use mathlib.Core.Bool.{Bool, true, false}
 use mathlib.Core.List.{List, []}
@@ -18,7 +19,6 @@ use Rattle.loops.proofs.Search.{all→, none→, →none}
 use Rattle.loops.proofs.Bools.{row_at}
 use Rattle.loops.proofs.Fill.{length_from, get_d_from}
 use Rattle.terms.specs.declared.setting.Setting.{Setting}
-use Rattle.terms.specs.declared.answer.Found.TheVariants.{At, Absent}
 use Rattle.terms.specs.Answers.{is_taken, done}
 use Rattle.terms.specs.Setting.{is_good}
 use Rattle.terms.specs.Votes.{vote_of, is_refused}
@@ -52,7 +52,7 @@ book_takes : (w : List ℕ) (name slot : ℕ) (parents : List ℕ) → Ledger w 
     → book_answer test_of w name slot parents ≡ done
 book_takes w name slot parents ledger fresh in_range some known once room = rw (ledger_fine w ledger, fresh, in_range, some, known, once, room)
 
-poll_takes : (w : List ℕ) (name : ℕ) (votes : List ℕ) (i : ℕ) → Ledger w → look_up w name ≡ At i → state_of w i ≡ 0
+poll_takes : (w : List ℕ) (name : ℕ) (votes : List ℕ) (i : ℕ) → Ledger w → look_up w name ≡ Some i → state_of w i ≡ 0
     → length votes ≡ (setting_in w).k → has_refused_vote votes ≡ false → poll_answer test_of w name votes ≡ done
 poll_takes w name votes i ledger found waiting counted cast =
     rw (ledger_fine w ledger, found, waiting, eq-eqb (length votes) (setting_in w).k counted, cast)
@@ -61,7 +61,7 @@ poll_takes w name votes i ledger found waiting counted cast =
 
 module _ (w : List ℕ) (ledger : Ledger w) where
   -- a name that no booking has
-  name_absent : (name : ℕ) → ((i : ℕ) → i < bookings w → name_of w i ≢ name) → look_up w name ≡ Absent
+  name_absent : (name : ℕ) → ((i : ℕ) → i < bookings w → name_of w i ≢ name) → look_up w name ≡ None
   unfolding look_up
   name_absent name fresh = rw (→none (is_named w name) (bookings w) (λ i h. ne_eqb (name_of w i) name (fresh i h)))
 

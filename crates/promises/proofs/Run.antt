@@ -1,4 +1,5 @@
 -- Demand 3 over every run: what is right of a station after an opening or a reading, every call keeps.
+use Rattle.std.specs.Prelude.{Err, Ok}
 use mathlib.Core.Path.{◌≡◌, refl, sym, ap, ap₂, subst, ◌∙◌}
 use mathlib.Core.Bool.{Bool, true, false, cond, true≢false}
 use mathlib.Core.List.{List, [], ◌∷◌}
@@ -13,9 +14,7 @@ use Rattle.loops.proofs.Total.{total_same, total_plus, total_more, total_zeros}
 use Rattle.terms.specs.declared.setting.Setting.{Setting}
 use Rattle.terms.specs.declared.form.Form.{Form}
 use Rattle.terms.specs.declared.form.Form.TheVariants.{First, Second}
-use Rattle.terms.specs.declared.answer.Answer.{Answer}
-use Rattle.terms.specs.declared.answer.Answer.TheVariants.{Taken, Refused}
-use Rattle.terms.specs.Answers.{Outcome, is_taken}
+use Rattle.terms.specs.Answers.{Outcome, is_taken, Answer}
 use Rattle.rules.specs.Layout.{size, bookings, polls, slot_of, confidence_of, preferred_in, polls_field, confidence_field, preferred_field}
 use Rattle.rules.specs.Ancestry.{ancestry, is_member}
 use Rattle.rules.specs.Readings.{size_of}
@@ -248,8 +247,8 @@ in_order_kept call Keeps each (x ∷ xs) o kept taken =
   where
     go : (a : Answer) (w : List ℕ) → (is_taken a ≡ true → Keeps (x ∷ xs) w) → is_taken (following a w (call x)).answer ≡ true
         → Keeps xs (following a w (call x)).words
-    go (Taken v) w k t = each x xs w (k refl) t
-    go (Refused r) w k t = absurd (true≢false (sym t))
+    go (Ok v) w k t = each x xs w (k refl) t
+    go (Err r) w k t = absurd (true≢false (sym t))
 
 -- a day's booking again
 rebook_right : (h : History) (b : DayBooking) (w : List ℕ) → Right w h → is_taken (rebook_by test_of b w).answer ≡ true → Right (rebook_by test_of b w).words h

@@ -1,5 +1,6 @@
 -- The stages of a day's replay: what its opening, its first j bookings and its first q polls leave, where they are taken. Each stage is a ledger that holds the
 -- day so far, and the next is made by one call; in the end the words hold the day. Assumes nothing.
+use Rattle.std.specs.Prelude.{Err, Ok}
 use mathlib.Core.Path.{◌≡◌, refl, sym, ap, subst, ◌∙◌}
 use mathlib.Core.Bool.{true, false, true≢false}
 use mathlib.Core.List.{List, [], ◌∷◌}
@@ -11,9 +12,7 @@ use lib.ListN.{length, get_or, take, replicate}
 use lib.Seq.{take-suc, take-length, length-take-le}
 use Rattle.loops.specs.Fill.{from}
 use Rattle.terms.specs.declared.setting.Setting.{Setting}
-use Rattle.terms.specs.declared.answer.Answer.{Answer}
-use Rattle.terms.specs.declared.answer.Answer.TheVariants.{Taken, Refused}
-use Rattle.terms.specs.Answers.{Outcome, is_taken}
+use Rattle.terms.specs.Answers.{Outcome, is_taken, Answer}
 use Rattle.terms.specs.Setting.{Good, setting_of}
 use Rattle.rules.specs.Layout.{size, most_bookings, most_parents, slots, polls_field, bookings, polls, state_of}
 use Rattle.rules.specs.Sound.{Ledger}
@@ -51,16 +50,16 @@ module _ {A : Type 0} (call : A → List ℕ → Outcome) where
     where
       go : (a : Answer) → is_taken (following a o.words (call x)).answer ≡ true
           → (is_taken a ≡ true) × (following a o.words (call x) ≡ call x o.words)
-      go (Taken v) e = (refl, refl)
-      go (Refused r) e = absurd (true≢false (sym e))
+      go (Ok v) e = (refl, refl)
+      go (Err r) e = absurd (true≢false (sym e))
 
   -- after what was taken it is the call itself
   next_after : (x : A) (o : Outcome) → is_taken o.answer ≡ true → next x o ≡ call x o.words
   next_after x o = go o.answer
     where
       go : (a : Answer) → is_taken a ≡ true → following a o.words (call x) ≡ call x o.words
-      go (Taken v) e = refl
-      go (Refused r) e = absurd (true≢false (sym e))
+      go (Ok v) e = refl
+      go (Err r) e = absurd (true≢false (sym e))
 
   in_order_start : (xs : List A) (o : Outcome) → is_taken (in_order call xs o).answer ≡ true → is_taken o.answer ≡ true
   unfolding in_order

@@ -1,5 +1,6 @@
 -- What a taken call has passed: each of its tests failed, so the fact that each refusal would deny holds, and its words are the rule's.
 -- What a refused call leaves: every word, and every byte and cell. What writing a file and the calls about an index leave in any case: every word. Assumes nothing.
+use Rattle.std.specs.Prelude.{Err, None, Ok, Option, Some}
 use mathlib.Core.Path.{◌≡◌, refl, sym, ap, ◌∙◌}
 use mathlib.Core.Bool.{Bool, true, false, not, cond, true≢false}
 use mathlib.Core.List.{List}
@@ -14,15 +15,9 @@ use Rattle.loops.proofs.Bools.{neither}
 use Rattle.loops.specs.Search.{any}
 use Rattle.loops.proofs.Search.{none→}
 use Rattle.terms.specs.declared.setting.Setting.{Setting}
-use Rattle.terms.specs.declared.answer.Found.{Found}
-use Rattle.terms.specs.declared.answer.Found.TheVariants.{At, Absent}
 use Rattle.terms.specs.declared.answer.Refusal.{Refusal}
 use Rattle.terms.specs.declared.form.Form.{Form}
-use Rattle.terms.specs.declared.answer.Tested.{Tested}
-use Rattle.terms.specs.declared.answer.Tested.TheVariants.{Fine, Stop}
-use Rattle.terms.specs.declared.answer.Answer.{Answer}
-use Rattle.terms.specs.declared.answer.Answer.TheVariants.{Taken, Refused}
-use Rattle.terms.specs.Answers.{number, value, outcome, leaves, handover, hands_over, is_taken, done}
+use Rattle.terms.specs.Answers.{number, value, outcome, leaves, handover, hands_over, is_taken, done, Answer, Tested}
 use Rattle.rules.specs.Layout.{size, most_bookings, most_parents, slots, bookings, name_of, state_of, slot_of, confidence_of, preferred_in}
 use Rattle.terms.specs.Setting.{Good}
 use Rattle.rules.specs.Sound.{Ledger}
@@ -64,14 +59,14 @@ Led w = (i : ℕ) → i < bookings w → confidence_of w i ≤ confidence_of w (
 -- ---- what a call leaves
 
 leaves_taken : (a : Answer) (before after : List ℕ) → is_taken (leaves a before after).answer ≡ true
-    → (v : ℤ) × (a ≡ Taken v) × ((leaves a before after).words ≡ after)
-leaves_taken (Taken v) before after e = (v, refl, refl)
-leaves_taken (Refused r) before after e = absurd (true≢false (sym e))
+    → (v : ℤ) × (a ≡ Ok v) × ((leaves a before after).words ≡ after)
+leaves_taken (Ok v) before after e = (v, refl, refl)
+leaves_taken (Err r) before after e = absurd (true≢false (sym e))
 
 -- a call that is not taken has the number of a refusal
 untaken : (a : Answer) → is_taken a ≡ false → number a ≢ 0
-untaken (Taken v) e = absurd (true≢false e)
-untaken (Refused r) e = number_refused r
+untaken (Ok v) e = absurd (true≢false e)
+untaken (Err r) e = number_refused r
 
 -- a refused call leaves every word
 pub open_kept : (w : List ℕ) (s : Setting) → is_taken (open_call w s).answer ≡ false → (open_call w s).words ≡ w
@@ -120,28 +115,28 @@ enter_words w index = hands_over_words (enter_answer damage_of w index) w index 
 -- ---- the tests that a taken call has passed
 
 module _ {v : ℤ} where
-  passed : (t : Bool) (r : Refusal) (rest : Answer) → cond t (Refused r) rest ≡ Taken v → (t ≡ false) × (rest ≡ Taken v)
+  passed : (t : Bool) (r : Refusal) (rest : Answer) → cond t (Err r) rest ≡ Ok v → (t ≡ false) × (rest ≡ Ok v)
   passed true r rest e = absurd (true≢false (sym (ap is_taken e)))
   passed false r rest e = (refl, e)
 
-  tested_passed : (w : List ℕ) (rest : Answer) → tested test_of w rest ≡ Taken v → Ledger w × (rest ≡ Taken v)
+  tested_passed : (w : List ℕ) (rest : Answer) → tested test_of w rest ≡ Ok v → Ledger w × (rest ≡ Ok v)
   tested_passed w rest = go (test_of w) refl
     where
-      go : (t : Tested) → test_of w ≡ t → unless_stopped t rest ≡ Taken v → Ledger w × (rest ≡ Taken v)
-      go Fine fine e = (fine_ledger w fine, e)
-      go (Stop r) stopped e = absurd (true≢false (sym (ap is_taken e)))
+      go : (t : Tested) → test_of w ≡ t → unless_stopped t rest ≡ Ok v → Ledger w × (rest ≡ Ok v)
+      go (Ok tt) fine e = (fine_ledger w fine, e)
+      go (Err r) stopped e = absurd (true≢false (sym (ap is_taken e)))
 
-  index_passed : (w index : List ℕ) (rest : Answer) → index_tested damage_of w index rest ≡ Taken v → Ledger w × (length index ≡ cells) × (rest ≡ Taken v)
+  index_passed : (w index : List ℕ) (rest : Answer) → index_tested damage_of w index rest ≡ Ok v → Ledger w × (length index ≡ cells) × (rest ≡ Ok v)
   unfolding beside_of
   index_passed w index rest = go (beside_index w index) refl
     where
-      go : (t : Tested) → beside_index w index ≡ t → unless_stopped t rest ≡ Taken v → Ledger w × (length index ≡ cells) × (rest ≡ Taken v)
-      go Fine fine e = let right = fine_index w index fine in (right.0, right.1, e)
-      go (Stop r) stopped e = absurd (true≢false (sym (ap is_taken e)))
+      go : (t : Tested) → beside_index w index ≡ t → unless_stopped t rest ≡ Ok v → Ledger w × (length index ≡ cells) × (rest ≡ Ok v)
+      go (Ok tt) fine e = let right = fine_index w index fine in (right.0, right.1, e)
+      go (Err r) stopped e = absurd (true≢false (sym (ap is_taken e)))
 
-  asked_passed : (f : Found) (rest : ℕ → Answer) → asked_of f rest ≡ Taken v → (f ≡ At (number_of f)) × (rest (number_of f) ≡ Taken v)
-  asked_passed (At i) rest e = (refl, e)
-  asked_passed Absent rest e = absurd (true≢false (sym (ap is_taken e)))
+  asked_passed : (f : Option ℕ) (rest : ℕ → Answer) → asked_of f rest ≡ Ok v → (f ≡ Some (number_of f)) × (rest (number_of f) ≡ Ok v)
+  asked_passed (Some i) rest e = (refl, e)
+  asked_passed None rest e = absurd (true≢false (sym (ap is_taken e)))
 
 -- no parent is named twice
 distinct_names : (parents : List ℕ) → has_twice parents ≡ false → (a b : ℕ) → a < b → b < length parents → get_or parents a 0 ≢ get_or parents b 0
@@ -199,15 +194,15 @@ poll_taken w name votes e =
 
 -- its answer has value 0
 taken_done : (a : Answer) → is_taken a ≡ true → (number a ≡ 0 → value a ≡ pos 0) → a ≡ done
-taken_done (Taken v) e h = ap Taken (h refl)
-taken_done (Refused r) e h = absurd (true≢false (sym e))
+taken_done (Ok v) e h = ap Ok (h refl)
+taken_done (Err r) e h = absurd (true≢false (sym e))
 
 pub poll_outcome : (w : List ℕ) (name : ℕ) (votes : List ℕ) → is_taken (poll_call w name votes).answer ≡ true
     → poll_call w name votes ≡ outcome done (polled w (number_of (look_up w name)) votes)
 poll_outcome w name votes e = λ i. outcome (taken_done (poll_call w name votes).answer e (poll_value w name votes) i) ((poll_taken w name votes e).2 i)
 
-pub reading_taken : (f : ℕ → ℤ) (w : List ℕ) (name : ℕ) (v : ℤ) → reading_call f w name ≡ Taken v
-    → Ledger w × (look_up w name ≡ At (number_of (look_up w name))) × (f (number_of (look_up w name)) ≡ v)
+pub reading_taken : (f : ℕ → ℤ) (w : List ℕ) (name : ℕ) (v : ℤ) → reading_call f w name ≡ Ok v
+    → Ledger w × (look_up w name ≡ Some (number_of (look_up w name))) × (f (number_of (look_up w name)) ≡ v)
 reading_taken f w name v e =
     let ledger = tested_passed w _ e in
     let found = asked_passed (look_up w name) _ ledger.1 in
@@ -220,11 +215,11 @@ write_taken form w buffer =
     rw (hands_over_answer (write_file_answer test_of form w buffer) w buffer (laid (file_of form w) buffer)) (go (write_file_answer test_of form w buffer) refl)
   where
     go : (a : Answer) → write_file_answer test_of form w buffer ≡ a → number a ≡ 0 → Ledger w × (value a ≡ pos (length (file_of form w)))
-    go (Taken v) e z =
+    go (Ok v) e z =
         let ledger = tested_passed w _ e in
         let room = passed (ltb (length buffer) (length (file_of form w))) _ _ ledger.1 in
         (ledger.0, ap value (sym room.1))
-    go (Refused r) e z = absurd (number_refused r z)
+    go (Err r) e z = absurd (number_refused r z)
 
 pub read_taken : (form : Form) (w file : List ℕ) → is_taken (read_file_call form w file).answer ≡ true
     → (length w ≡ size) × (good_in form file ≡ true) × ((read_file_call form w file).words ≡ words_in form file)
@@ -247,7 +242,7 @@ pub read_value : (form : Form) (w file : List ℕ) → number (read_file_call fo
 unfolding read_file_call
 read_value form w file = rw (leaves_answer (read_file_answer (good_in form) w file) w (words_in form file)) (go (not (eqb (length w) size)) (not (good_in form file)))
   where
-    go : (long bad : Bool) → let a = cond long (Refused Refusal.WrongLength) (cond bad (Refused Refusal.BadFile) done) in number a ≡ 0 → value a ≡ pos 0
+    go : (long bad : Bool) → let a = cond long (Err Refusal.WrongLength) (cond bad (Err Refusal.BadFile) done) in number a ≡ 0 → value a ≡ pos 0
     go true bad z = refl
     go false true z = refl
     go false false z = refl
@@ -256,25 +251,25 @@ read_value form w file = rw (leaves_answer (read_file_answer (good_in form) w fi
 
 pub move_taken : (form : Form) (file out : List ℕ) → number (move_file_call form file out).answer ≡ 0
     → (good_in form file ≡ true) × (has_other_marks form file ≡ false) × (length (moved_in form file) ≤ length out)
-    × (move_file_call form file out ≡ outcome (Taken (pos (length (moved_in form file)))) (laid (moved_in form file) out))
+    × (move_file_call form file out ≡ outcome (Ok (pos (length (moved_in form file)))) (laid (moved_in form file) out))
 unfolding move_file_call
 move_taken form file out = go (not (good_in form file)) refl (has_other_marks form file) refl (ltb (length out) (length (moved_in form file))) refl
   where
     answer : Bool → Bool → Bool → Answer
     answer bad other short =
-        cond bad (Refused Refusal.BadFile) (cond other (Refused Refusal.OtherMarks) (cond short (Refused Refusal.ShortBuffer) (Taken (pos (length (moved_in form file))))))
+        cond bad (Err Refusal.BadFile) (cond other (Err Refusal.OtherMarks) (cond short (Err Refusal.ShortBuffer) (Ok (pos (length (moved_in form file))))))
 
     go : (bad : Bool) → not (good_in form file) ≡ bad → (other : Bool) → has_other_marks form file ≡ other
         → (short : Bool) → ltb (length out) (length (moved_in form file)) ≡ short → number (leaves (answer bad other short) out (laid (moved_in form file) out)).answer ≡ 0
         → (good_in form file ≡ true) × (has_other_marks form file ≡ false) × (length (moved_in form file) ≤ length out)
-        × (leaves (answer bad other short) out (laid (moved_in form file) out) ≡ outcome (Taken (pos (length (moved_in form file)))) (laid (moved_in form file) out))
+        × (leaves (answer bad other short) out (laid (moved_in form file) out) ≡ outcome (Ok (pos (length (moved_in form file)))) (laid (moved_in form file) out))
     go true b other o short s z = absurd (number_refused Refusal.BadFile z)
     go false b true o short s z = absurd (number_refused Refusal.OtherMarks z)
     go false b false o true s z = absurd (number_refused Refusal.ShortBuffer z)
     go false b false o false s z = (not-false _ b, o, ltb-false (length out) (length (moved_in form file)) s, refl)
 
 pub move_given : (form : Form) (file out : List ℕ) → good_in form file ≡ true → has_other_marks form file ≡ false → length (moved_in form file) ≤ length out
-    → move_file_call form file out ≡ outcome (Taken (pos (length (moved_in form file)))) (laid (moved_in form file) out)
+    → move_file_call form file out ≡ outcome (Ok (pos (length (moved_in form file)))) (laid (moved_in form file) out)
 unfolding move_file_call
 move_given form file out good kept room = rw (good, kept, le-ltb (length out) (length (moved_in form file)) room)
 
@@ -285,7 +280,7 @@ move_number form file out =
     (go (not (good_in form file)) (has_other_marks form file) (ltb (length out) (length (moved_in form file))))
   where
     go : (bad other short : Bool)
-        → number (cond bad (Refused Refusal.BadFile) (cond other (Refused Refusal.OtherMarks) (cond short (Refused Refusal.ShortBuffer) (Taken (pos (length (moved_in form file)))))))
+        → number (cond bad (Err Refusal.BadFile) (cond other (Err Refusal.OtherMarks) (cond short (Err Refusal.ShortBuffer) (Ok (pos (length (moved_in form file)))))))
         ≤ 19
     go true other short = omega arith
     go false true short = omega arith
@@ -299,7 +294,7 @@ move_valueless form file out =
     (go (not (good_in form file)) (has_other_marks form file) (ltb (length out) (length (moved_in form file))))
   where
     go : (bad other short : Bool)
-        → let a = cond bad (Refused Refusal.BadFile) (cond other (Refused Refusal.OtherMarks) (cond short (Refused Refusal.ShortBuffer) (Taken (pos (length (moved_in form file)))))) in
+        → let a = cond bad (Err Refusal.BadFile) (cond other (Err Refusal.OtherMarks) (cond short (Err Refusal.ShortBuffer) (Ok (pos (length (moved_in form file)))))) in
         number a ≢ 0 → value a ≡ pos 0
     go true other short h = refl
     go false true short h = refl
@@ -314,9 +309,9 @@ move_refused form file out = leaves_refused (move_file_answer good_in replay for
 
 -- what a taken call that hands something over has in its answer, and what it leaves
 hands_over_taken : (a : Answer) (words before after : List ℕ) → number (hands_over a words before after).answer ≡ 0
-    → (v : ℤ) × (a ≡ Taken v) × (hands_over a words before after ≡ handover (Taken v) words after)
-hands_over_taken (Taken v) words before after e = (v, refl, refl)
-hands_over_taken (Refused r) words before after e = absurd (number_refused r e)
+    → (v : ℤ) × (a ≡ Ok v) × (hands_over a words before after ≡ handover (Ok v) words after)
+hands_over_taken (Ok v) words before after e = (v, refl, refl)
+hands_over_taken (Err r) words before after e = absurd (number_refused r e)
 
 pub build_taken : (w index : List ℕ) → number (index_build_call w index).answer ≡ 0
     → Ledger w × (length index ≡ cells) × (index_build_call w index ≡ handover done w (built w))
@@ -336,14 +331,14 @@ enter_taken w index e =
     (right.0, right.1, room.0, taken.2 ∙ ap (λ a. handover a w (with_number w (newest w) index)) (sym room.1))
 
 pub find_taken : (w index : List ℕ) (name : ℕ) → number (index_find_call w index name) ≡ 0
-    → (i : ℕ) × Ledger w × (length index ≡ cells) × (look_up_in w index name ≡ At i) × (index_find_call w index name ≡ Taken (pos i))
+    → (i : ℕ) × Ledger w × (length index ≡ cells) × (look_up_in w index name ≡ Some i) × (index_find_call w index name ≡ Ok (pos i))
 unfolding index_find_call
 find_taken w index name = go (index_find_call w index name) refl
   where
     go : (a : Answer) → index_find_call w index name ≡ a → number a ≡ 0
-        → (i : ℕ) × Ledger w × (length index ≡ cells) × (look_up_in w index name ≡ At i) × (a ≡ Taken (pos i))
-    go (Taken v) e z =
+        → (i : ℕ) × Ledger w × (length index ≡ cells) × (look_up_in w index name ≡ Some i) × (a ≡ Ok (pos i))
+    go (Ok v) e z =
         let right = index_passed w index _ e in
         let found = asked_passed (look_up_in w index name) _ right.2 in
         (number_of (look_up_in w index name), right.0, right.1, found.0, sym found.1)
-    go (Refused r) e z = absurd (number_refused r z)
+    go (Err r) e z = absurd (number_refused r z)

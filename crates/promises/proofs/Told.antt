@@ -1,4 +1,5 @@
 -- Each reading is found at the one booking with the name, and says of it what its law says.
+use Rattle.std.specs.Prelude.{Ok}
 use mathlib.Core.Path.{◌≡◌, refl, sym, ap, ◌∙◌}
 use mathlib.Core.Bool.{Bool, true, false, true≢false}
 use mathlib.Core.List.{List}
@@ -8,7 +9,7 @@ use native.Mathlib.Nat.{add-zero}
 use lib.IntN.{ℤ, pos}
 use borrow.Author.Tests.{eq-eqb, eqb-true}
 use Rattle.loops.specs.Total.{bit, total, count}
-use Rattle.terms.specs.declared.answer.Answer.TheVariants.{Taken}
+use Rattle.terms.specs.Answers.{Answer}
 use Rattle.rules.specs.Layout.{bookings, name_of, confidence_of, mark_of}
 use Rattle.rules.specs.Ancestry.{ancestry, is_member}
 use Rattle.rules.specs.Readings.{query_of, accepted_of, lead_of, rivals_most, size_of}
@@ -21,13 +22,13 @@ use Rattle.rule_laws.proofs.Readings.{query_is, rivals_most_is}
 use Rattle.promises.specs.Told.{Sized, nobody, counts, passes, Told, ReadingsTold}
 
 module _ (w : List ℕ) (ledger : Ledger w) (i : ℕ) (below : i < bookings w) where
-  told : (f : ℕ → ℤ) → reading_call f w (name_of w i) ≡ Taken (f i)
+  told : (f : ℕ → ℤ) → reading_call f w (name_of w i) ≡ Ok (f i)
   told f = reading_found f w (name_of w i) ledger i (found_is w ledger.sound i below)
 
-  one : (b : Bool) → b ≡ true → Taken (pos (bit b)) ≡ Taken (pos 1)
-  one b e = ap (λ (x : Bool). Taken (pos (bit x))) e
+  one : (b : Bool) → b ≡ true → ◌≡◌ {A = Answer} (Ok (pos (bit b))) (Ok (pos 1))
+  one b e = ap (λ (x : Bool). Ok (pos (bit x))) e
 
-  other : (b : Bool) → (b ≡ true → ⊥) → Taken (pos (bit b)) ≡ Taken (pos 0)
+  other : (b : Bool) → (b ≡ true → ⊥) → ◌≡◌ {A = Answer} (Ok (pos (bit b))) (Ok (pos 0))
   other true n = absurd (n refl)
   other false n = refl
 

@@ -1,6 +1,5 @@
 -- No two bookings of a slot are accepted at the same moment. CR 5: an acceptance stays, and is earned by the words of the poll that marks it.
-use Rattle.std.specs.Prelude.{◌≡◌, Bool, true, false, ◌&&◌, List, [], ◌∷◌, ℕ, ◌<◌, pos}
-use Rattle.terms.specs.declared.answer.Answer.TheVariants.{Taken}
+use Rattle.std.specs.Prelude.{◌≡◌, Bool, true, false, ◌&&◌, List, [], ◌∷◌, ℕ, ◌<◌, pos, Ok}
 use Rattle.terms.specs.Answers.{is_taken}
 use Rattle.rules.specs.Layout.{most_bookings, bookings, slot_of, name_of, mark_of}
 use Rattle.rules.specs.Readings.{accepted_of}
@@ -19,7 +18,7 @@ AcceptedOnce =
 unfoldable pub AcceptedCallOnce : Type 0
 AcceptedCallOnce =
     (w : List ℕ) (i j : ℕ) → i < bookings w → j < bookings w → slot_of w i ≡ slot_of w j
-    → accepted_call w (name_of w i) ≡ Taken (pos 1) → accepted_call w (name_of w j) ≡ Taken (pos 1) → i ≡ j
+    → accepted_call w (name_of w i) ≡ Ok (pos 1) → accepted_call w (name_of w j) ≡ Ok (pos 1) → i ≡ j
 
 -- ---- an acceptance stays
 
@@ -42,7 +41,7 @@ NoneRenews (c ∷ cs) w = (renews c w ≡ false) × NoneRenews cs (outcome_of c 
 unfoldable pub AcceptedCallStays : Type 0
 AcceptedCallStays =
     (calls : List Call) (t : Station) (name : ℕ) → NoneRenews calls t.words
-    → accepted_call t.words name ≡ Taken (pos 1) → accepted_call (run calls t).words name ≡ Taken (pos 1)
+    → accepted_call t.words name ≡ Ok (pos 1) → accepted_call (run calls t).words name ≡ Ok (pos 1)
 
 -- ---- an acceptance is earned
 

@@ -1,8 +1,6 @@
 -- CR 6: by the built index a lookup equals the plain search, entering after a taken booking keeps it so; and what a lookup gives by any index.
-use Rattle.std.specs.Prelude.{◌≡◌, Bool, false, cond, List, [], ◌∷◌, ℕ, ◌<◌, pos, length, set}
-use Rattle.terms.specs.declared.answer.Answer.{Answer}
-use Rattle.terms.specs.declared.answer.Answer.TheVariants.{Taken}
-use Rattle.terms.specs.Answers.{number, is_taken, done, handover}
+use Rattle.std.specs.Prelude.{◌≡◌, Bool, false, cond, List, [], ◌∷◌, ℕ, ◌<◌, pos, length, set, Ok}
+use Rattle.terms.specs.Answers.{number, is_taken, done, handover, Answer}
 use Rattle.rules.specs.Layout.{bookings, name_of}
 use Rattle.rules.specs.Sound.{Ledger}
 use Rattle.rules.specs.Calls.{book_call, reading_call}
@@ -22,13 +20,13 @@ BuiltFinds = (w : List ℕ) (name : ℕ) → index_find_call w (built w) name �
 
 -- in words: by the built index every booking is found by its name, with its number
 unfoldable pub BuiltNumbers : Type 0
-BuiltNumbers = (w : List ℕ) → Ledger w → (i : ℕ) → i < bookings w → index_find_call w (built w) (name_of w i) ≡ Taken (pos i)
+BuiltNumbers = (w : List ℕ) → Ledger w → (i : ℕ) → i < bookings w → index_find_call w (built w) (name_of w i) ≡ Ok (pos i)
 
 -- by any index it is what probing finds: the number in the cell where the name is met
 unfoldable pub ProbingFinds : Type 0
 ProbingFinds =
     (w index : List ℕ) (name : ℕ) → Ledger w → length index ≡ cells → (m : NameMet w index name)
-    → index_find_call w index name ≡ Taken (pos (cell index (tried (home name) m.others)))
+    → index_find_call w index name ≡ Ok (pos (cell index (tried (home name) m.others)))
 
 -- so by any index a lookup that finds a number finds that of the plain search: it can miss, and never mislead
 unfoldable pub FoundIsPlain : Type 0

@@ -1,5 +1,6 @@
 -- Refused calls leave every word and have value 0 unless they name a row; a taken open, book or poll has value 0.
 -- `leaves` hands the words before back in the one arm that a refusal takes, and `hands_over` the bytes, so each call cites one law. Assumes nothing.
+use Rattle.std.specs.Prelude.{Err, None, Ok, Option, Some}
 use mathlib.Core.Path.{◌≡◌, refl, sym, ap}
 use mathlib.Core.Bool.{Bool, true, false, cond, true≢false}
 use mathlib.Core.List.{List}
@@ -31,13 +32,7 @@ use Rattle.terms.specs.declared.answer.Refusal.TheVariants.{
   OtherMarks,
   IndexFull,
 }
-use Rattle.terms.specs.declared.answer.Found.{Found}
-use Rattle.terms.specs.declared.answer.Found.TheVariants.{At, Absent}
-use Rattle.terms.specs.declared.answer.Tested.{Tested}
-use Rattle.terms.specs.declared.answer.Tested.TheVariants.{Fine, Stop}
-use Rattle.terms.specs.declared.answer.Answer.{Answer}
-use Rattle.terms.specs.declared.answer.Answer.TheVariants.{Taken, Refused}
-use Rattle.terms.specs.Answers.{refusal_number, refusal_row, number, value, is_taken, Outcome, leaves, hands_over}
+use Rattle.terms.specs.Answers.{refusal_number, refusal_row, number, value, is_taken, Outcome, leaves, hands_over, Answer, Tested}
 use Rattle.rules.specs.Calls.{open_answer, open_call, test_of, unless_stopped, book_answer, book_call, poll_answer, poll_call, asked_of}
 
 -- ---- the number tells a refusal from a taken call
@@ -65,31 +60,31 @@ refusal_number_within WrongIndex = omega arith
 refusal_number_within OtherMarks = omega arith
 refusal_number_within IndexFull = omega arith
 
-pub number_refused : (r : Refusal) → number (Refused r) ≢ 0
+pub number_refused : (r : Refusal) → number (Err r) ≢ 0
 number_refused r e = omega (arith, (refusal_number_within r).0)
 
 -- a call is taken exactly if its number is 0
 pub zero_taken : (r : Answer) → number r ≡ 0 → is_taken r ≡ true
-zero_taken (Taken v) e = refl
-zero_taken (Refused r) e = absurd (number_refused r e)
+zero_taken (Ok v) e = refl
+zero_taken (Err r) e = absurd (number_refused r e)
 
 pub taken_zero : (r : Answer) → is_taken r ≡ true → number r ≡ 0
-taken_zero (Taken v) e = refl
-taken_zero (Refused r) e = absurd (true≢false (sym e))
+taken_zero (Ok v) e = refl
+taken_zero (Err r) e = absurd (true≢false (sym e))
 
 -- a writing call gives its answer
 pub leaves_answer : (a : Answer) (before after : List ℕ) → (leaves a before after).answer ≡ a
-leaves_answer (Taken v) before after = refl
-leaves_answer (Refused r) before after = refl
+leaves_answer (Ok v) before after = refl
+leaves_answer (Err r) before after = refl
 
 -- and so does one that hands bytes over, which changes no word
 pub hands_over_answer : (a : Answer) (words before after : List ℕ) → (hands_over a words before after).answer ≡ a
-hands_over_answer (Taken v) words before after = refl
-hands_over_answer (Refused r) words before after = refl
+hands_over_answer (Ok v) words before after = refl
+hands_over_answer (Err r) words before after = refl
 
 pub hands_over_words : (a : Answer) (words before after : List ℕ) → (hands_over a words before after).words ≡ words
-hands_over_words (Taken v) words before after = refl
-hands_over_words (Refused r) words before after = refl
+hands_over_words (Ok v) words before after = refl
+hands_over_words (Err r) words before after = refl
 
 -- ---- refused
 
@@ -121,8 +116,8 @@ abbrev pub Valueless : Answer → Type 0
 Valueless a = number a ≢ 14 → number a ≢ 15 → value a ≡ pos 0
 
 pub value_refused : (a : Answer) → number a ≢ 0 → Valueless a
-value_refused (Taken v) h = absurd (h refl)
-value_refused (Refused r) h = λ k l. ap pos (row_other r k l)
+value_refused (Ok v) h = absurd (h refl)
+value_refused (Err r) h = λ k l. ap pos (row_other r k l)
 
 -- what a refused writing call gives: every word stays, and the value is 0 unless the number is 14 or 15
 pub record Unmoved (w : List ℕ) (o : Outcome) : Type 0 where
@@ -130,8 +125,8 @@ pub record Unmoved (w : List ℕ) (o : Outcome) : Type 0 where
   pub value : Valueless o.answer
 
 pub leaves_refused : (a : Answer) (before after : List ℕ) → number (leaves a before after).answer ≢ 0 → Unmoved before (leaves a before after)
-leaves_refused (Taken v) before after h = absurd (h refl)
-leaves_refused (Refused r) before after h = record { words = refl; value = value_refused (Refused r) h }
+leaves_refused (Ok v) before after h = absurd (h refl)
+leaves_refused (Err r) before after h = record { words = refl; value = value_refused (Err r) h }
 
 pub open_refused : (w : List ℕ) (s : Setting) → number (open_call w s).answer ≢ 0 → Unmoved w (open_call w s)
 unfolding open_call
@@ -148,8 +143,8 @@ poll_refused w name votes = leaves_refused (poll_answer test_of w name votes) w 
 -- one that hands bytes over leaves every byte too
 pub hands_over_refused : (a : Answer) (words before after : List ℕ) → number (hands_over a words before after).answer ≢ 0
     → (hands_over a words before after).lent ≡ before
-hands_over_refused (Taken v) words before after h = absurd (h refl)
-hands_over_refused (Refused r) words before after h = refl
+hands_over_refused (Ok v) words before after h = absurd (h refl)
+hands_over_refused (Err r) words before after h = refl
 
 -- ---- a taken open, book or poll has value 0
 
@@ -161,27 +156,27 @@ cond_same : (t : Bool) (x : ℤ) → cond t x x ≡ x
 cond_same true x = refl
 cond_same false x = refl
 
-abbrev value_asked : Found → (ℕ → ℤ) → ℤ
-value_asked (At i) rest = rest i
-value_asked Absent rest = pos 0
+abbrev value_asked : Option ℕ → (ℕ → ℤ) → ℤ
+value_asked (Some i) rest = rest i
+value_asked None rest = pos 0
 
-value_asked_lem : (f : Found) (rest : ℕ → Answer) → value (asked_of f rest) ≡ value_asked f (λ i. value (rest i))
-value_asked_lem (At i) rest = refl
-value_asked_lem Absent rest = refl
+value_asked_lem : (f : Option ℕ) (rest : ℕ → Answer) → value (asked_of f rest) ≡ value_asked f (λ i. value (rest i))
+value_asked_lem (Some i) rest = refl
+value_asked_lem None rest = refl
 
-asked_same : (f : Found) → value_asked f (λ i. pos 0) ≡ pos 0
-asked_same (At i) = refl
-asked_same Absent = refl
+asked_same : (f : Option ℕ) → value_asked f (λ i. pos 0) ≡ pos 0
+asked_same (Some i) = refl
+asked_same None = refl
 
 -- what the test stops may name a row
 taken_stopped : (t : Tested) (rest : Answer) → value rest ≡ pos 0 → number (unless_stopped t rest) ≡ 0 → value (unless_stopped t rest) ≡ pos 0
-taken_stopped Fine rest e h = e
-taken_stopped (Stop r) rest e h = absurd (number_refused r h)
+taken_stopped (Ok tt) rest e h = e
+taken_stopped (Err r) rest e h = absurd (number_refused r h)
 
 leaves_value : (a : Answer) (before after : List ℕ) → (number a ≡ 0 → value a ≡ pos 0) → number (leaves a before after).answer ≡ 0
     → value (leaves a before after).answer ≡ pos 0
-leaves_value (Taken v) before after e = e
-leaves_value (Refused r) before after e = e
+leaves_value (Ok v) before after e = e
+leaves_value (Err r) before after e = e
 
 pub open_value : (w : List ℕ) (s : Setting) → number (open_call w s).answer ≡ 0 → value (open_call w s).answer ≡ pos 0
 unfolding open_call

@@ -1,4 +1,5 @@
 -- CR 1, a case as a law: a missing ordinal is charged to number n, which is 512 in a full ledger. A full ledger is too large for the table of cases.
+use Rattle.std.specs.Prelude.{Err}
 use mathlib.Core.Path.{◌≡◌, refl, sym, ap, ◌∙◌}
 use mathlib.Core.Bool.{Bool, true, false, not}
 use mathlib.Core.List.{List}
@@ -8,7 +9,6 @@ use native.Mathlib.Omega.{arith}
 use lib.ListN.{length}
 use Rattle.loops.proofs.Search.{first_unique}
 use Rattle.terms.specs.declared.answer.Refusal.TheVariants.{DamagedRecord}
-use Rattle.terms.specs.declared.answer.Tested.TheVariants.{Stop}
 use Rattle.rules.specs.Layout.{size, most_bookings, bookings, polls, ordinal_of}
 use Rattle.rules.specs.IsSound.{record_row, record_rows, bad_record}
 use Rattle.rules.specs.RowRules.{HeaderRules, RulesBelow}
@@ -43,10 +43,10 @@ module _ (w : List ℕ) (ordinal : ℕ) (missing : Missing w ordinal) where
   row_is =
       sym (first_unique (λ i. not (record_row w i)) record_rows (bookings w) (omega (arith, missing.header.bookings_most)) (ap not row_n) (λ i u. ap not (row_below i u)))
 
-  pub missing_charged : test_of w ≡ Stop (DamagedRecord (bookings w))
+  pub missing_charged : test_of w ≡ Err (DamagedRecord (bookings w))
   missing_charged =
       test_long w missing.whole
       ∙ sym (damage_record w (Rules→headerGood w missing.header) (bookings w) row_is (λ e. omega (arith, missing.header.bookings_most)))
 
-  pub full_missing_charged : bookings w ≡ most_bookings → test_of w ≡ Stop (DamagedRecord 512)
-  full_missing_charged full = missing_charged ∙ ap (λ n. Stop (DamagedRecord n)) full
+  pub full_missing_charged : bookings w ≡ most_bookings → test_of w ≡ Err (DamagedRecord 512)
+  full_missing_charged full = missing_charged ∙ ap (λ n. Err (DamagedRecord n)) full

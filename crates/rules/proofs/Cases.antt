@@ -12,10 +12,8 @@ use Rattle.loops.specs.Fill.{from}
 use Rattle.loops.specs.Rows.{walk_from}
 use Rattle.terms.specs.declared.answer.Reading.{Reading}
 use Rattle.terms.specs.declared.answer.Reading.TheVariants.{Query, Accepted, Lead, Confidence, Size}
-use Rattle.terms.specs.declared.answer.Answer.{Answer}
-use Rattle.terms.specs.declared.answer.Tested.{Tested}
 use Rattle.terms.specs.Setting.{setting_of}
-use Rattle.terms.specs.Answers.{Outcome}
+use Rattle.terms.specs.Answers.{Outcome, Answer, Tested}
 use Rattle.rules.specs.Layout.{
   size,
   bookings,

@@ -7,8 +7,7 @@ use lib.IntN.{ℤ, pos, negsuc}
 use lib.Dec.{eqb}
 use store.Seg.{eqb→≡}
 use Rattle.loops.proofs.Bools.{and_left, and_right}
-use Rattle.terms.specs.declared.answer.Answer.{Answer}
-use Rattle.terms.specs.Answers.{number, value}
+use Rattle.terms.specs.Answers.{number, value, Answer}
 
 -- what a caller gets back: the number, and the value
 abbrev pub Got : Type 0

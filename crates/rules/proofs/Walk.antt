@@ -19,7 +19,6 @@ use Rattle.loops.proofs.Search.{first_le, first_hit, first_before, first_ends, �
 use Rattle.loops.proofs.Total.{total_same}
 use Rattle.loops.proofs.Fill.{get_d_from}
 use Rattle.loops.proofs.Rows.{walk_is}
-use Rattle.terms.specs.declared.answer.Tested.{Tested}
 use Rattle.rules.specs.Layout.{header_words, record_words, slot_words, slots_start, most_bookings, slots, none, field, bookings, slot_of}
 use Rattle.rules.specs.IsSound.{
   record_good,
@@ -36,6 +35,7 @@ use Rattle.rules.specs.IsSound.{
   chits,
 }
 use Rattle.rules.specs.Calls.{damage_by, damage_of, test_by, test_of}
+use Rattle.terms.specs.Answers.{Tested}
 
 -- a search over rows of z words from word b on, and the same by number
 module _ (b z k : ℕ) (bad : ℕ → List ℕ → Bool) (w : List ℕ) where

@@ -1,36 +1,30 @@
 -- Document 01, "Book", and CR 5: each parent's name is looked up; the booking becomes number n, and enters its slot.
-use Rattle.std.specs.Prelude.{ℕ, ◌+◌, ◌/◌, ◌%◌, ◌^◌, Bool, true, false, cond, List, [], ◌∷◌, length, get_or, ltb, eqb}
+use Rattle.std.specs.Prelude.{ℕ, ◌+◌, ◌/◌, ◌%◌, ◌^◌, Bool, true, false, cond, List, [], ◌∷◌, length, get_or, ltb, eqb, None, Option, Some}
 use Rattle.std.proofs.lemmas.List.Edits.{sets}
-use Rattle.loops.specs.Search.{first, any}
-use Rattle.terms.specs.declared.answer.Found.{Found}
-use Rattle.terms.specs.declared.answer.Found.TheVariants.{At, Absent}
+use Rattle.loops.specs.Search.{first, any, found_below}
 use Rattle.rules.specs.Layout.{none, bookings, name_of, record_at, slot_at, held_in, held_field, bookings_field, with_entry, with_header}
 
 -- ---- looking a name up
 
--- i where it is below n, else nothing
-abbrev pub found_below : ℕ → ℕ → Found
-found_below n i = cond (ltb i n) (At i) Absent
-
 -- the number of the booking with the name
-unfoldable pub look_up : List ℕ → ℕ → Found
+unfoldable pub look_up : List ℕ → ℕ → Option ℕ
 look_up w name = found_below (bookings w) (first (λ i. eqb (name_of w i) name) (bookings w))
 
-abbrev pub is_absent : Found → Bool
-is_absent (At i) = false
-is_absent Absent = true
+abbrev pub is_absent : Option ℕ → Bool
+is_absent (Some i) = false
+is_absent None = true
 
-abbrev pub is_found : Found → Bool
-is_found (At i) = true
-is_found Absent = false
+abbrev pub is_found : Option ℕ → Bool
+is_found (Some i) = true
+is_found None = false
 
-abbrev pub number_of : Found → ℕ
-number_of (At i) = i
-number_of Absent = none
+abbrev pub number_of : Option ℕ → ℕ
+number_of (Some i) = i
+number_of None = none
 
 -- ---- the parents, by name in the order given
 
-abbrev pub parent_found : List ℕ → List ℕ → ℕ → Found
+abbrev pub parent_found : List ℕ → List ℕ → ℕ → Option ℕ
 parent_found w parents a = look_up w (get_or parents a 0)
 
 -- some parent's name isn't booked

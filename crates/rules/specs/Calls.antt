@@ -1,15 +1,9 @@
 -- Document 01, "Numbers a caller gets back": each call with its refusals in their order; the first that applies is given.
 -- A call is one total function of any list of words and any arguments; it gives an answer, and a call that writes the words it leaves too.
-use Rattle.std.specs.Prelude.{ℕ, Bool, not, ◌||◌, cond, List, ℤ, length, eqb, leb, ltb}
+use Rattle.std.specs.Prelude.{ℕ, Bool, not, ◌||◌, cond, List, ℤ, length, eqb, leb, ltb, Err, None, Ok, Option, Some}
 use Rattle.terms.specs.declared.setting.Setting.{Setting}
 use Rattle.terms.specs.declared.answer.Reading.{Reading}
 use Rattle.terms.specs.declared.answer.Reading.TheVariants.{Query, Accepted, Lead, Confidence, Size}
-use Rattle.terms.specs.declared.answer.Found.{Found}
-use Rattle.terms.specs.declared.answer.Found.TheVariants.{At, Absent}
-use Rattle.terms.specs.declared.answer.Tested.{Tested}
-use Rattle.terms.specs.declared.answer.Tested.TheVariants.{Fine, Stop}
-use Rattle.terms.specs.declared.answer.Answer.{Answer}
-use Rattle.terms.specs.declared.answer.Answer.TheVariants.{Taken, Refused}
 use Rattle.terms.specs.declared.answer.Refusal.{Refusal}
 use Rattle.terms.specs.declared.answer.Refusal.TheVariants.{
   WrongLength,
@@ -30,7 +24,7 @@ use Rattle.terms.specs.declared.answer.Refusal.TheVariants.{
 }
 use Rattle.rules.specs.Layout.{size, slots, most_parents, most_bookings, bookings, setting_in, state_of}
 use Rattle.terms.specs.Setting.{is_good}
-use Rattle.terms.specs.Answers.{Outcome, leaves, done}
+use Rattle.terms.specs.Answers.{Outcome, leaves, done, Answer, Tested}
 use Rattle.rules.specs.IsSound.{header_good, record_rows, bad_record, bad_slot}
 use Rattle.rules.specs.Open.{opened}
 use Rattle.rules.specs.Book.{look_up, is_found, number_of, has_unknown, has_twice, booked}
@@ -41,8 +35,8 @@ use Rattle.rules.specs.Readings.{reading_of}
 
 abbrev pub open_answer : List ℕ → Setting → Answer
 open_answer w s =
-    cond (not (eqb (length w) size)) (Refused WrongLength)
-    (cond (not (is_good s)) (Refused BadSetting)
+    cond (not (eqb (length w) size)) (Err WrongLength)
+    (cond (not (is_good s)) (Err BadSetting)
     done)
 
 unfoldable pub open_call : List ℕ → Setting → Outcome
@@ -53,37 +47,37 @@ open_call w s = leaves (open_answer w s) w (opened s)
 -- refusals 2, 14 and 15: the first that applies, if any; 14 and 15 carry the lowest row that breaks a rule
 abbrev pub damage_by : (lowest_record lowest_slot : List ℕ → ℕ) → List ℕ → Tested
 damage_by lowest_record lowest_slot w =
-    cond (not (header_good w)) (Stop DamagedHeader)
-    (cond (not (eqb (lowest_record w) record_rows)) (Stop (DamagedRecord (lowest_record w)))
-    (cond (not (eqb (lowest_slot w) slots)) (Stop (DamagedSlot (lowest_slot w)))
-    Fine))
+    cond (not (header_good w)) (Err DamagedHeader)
+    (cond (not (eqb (lowest_record w) record_rows)) (Err (DamagedRecord (lowest_record w)))
+    (cond (not (eqb (lowest_slot w) slots)) (Err (DamagedSlot (lowest_slot w)))
+    (Ok tt)))
 
 unfoldable pub damage_of : List ℕ → Tested
 damage_of = damage_by bad_record bad_slot
 
 -- refusal 1 before them
 abbrev pub test_by : (damage : List ℕ → Tested) → List ℕ → Tested
-test_by damage w = cond (not (eqb (length w) size)) (Stop WrongLength) (damage w)
+test_by damage w = cond (not (eqb (length w) size)) (Err WrongLength) (damage w)
 
 unfoldable pub test_of : List ℕ → Tested
 test_of = test_by damage_of
 
 -- and where a second buffer has to have a length of its own, its refusal just after 1
 abbrev pub beside_by : (damage : List ℕ → Tested) (is_wrong : Bool) → Refusal → List ℕ → Tested
-beside_by damage is_wrong r = test_by (λ w. cond is_wrong (Stop r) (damage w))
+beside_by damage is_wrong r = test_by (λ w. cond is_wrong (Err r) (damage w))
 
 unfoldable pub beside_of : (is_wrong : Bool) → Refusal → List ℕ → Tested
 beside_of = beside_by damage_of
 
 -- the rest of a call that no test stops
 abbrev pub unless_stopped : Tested → Answer → Answer
-unless_stopped Fine rest = rest
-unless_stopped (Stop r) rest = Refused r
+unless_stopped (Ok tt) rest = rest
+unless_stopped (Err r) rest = Err r
 
 -- refusal 10 before the rest, which takes the number found
-abbrev pub asked_of : Found → (ℕ → Answer) → Answer
-asked_of (At i) rest = rest i
-asked_of Absent rest = Refused UnknownName
+abbrev pub asked_of : Option ℕ → (ℕ → Answer) → Answer
+asked_of (Some i) rest = rest i
+asked_of None rest = Err UnknownName
 
 -- ---- single cases of the table
 
@@ -106,9 +100,9 @@ is_miscounted w count = not (eqb count (setting_in w).k)
 -- 7, 8 and 9: what is left of a booking's refusals once its name, its slot and the number of its parents pass
 abbrev pub parents_answer : List ℕ → List ℕ → Answer
 parents_answer w parents =
-    cond (has_unknown w parents) (Refused UnknownParent)
-    (cond (has_twice parents) (Refused ParentTwice)
-    (cond (eqb (bookings w) most_bookings) (Refused Full)
+    cond (has_unknown w parents) (Err UnknownParent)
+    (cond (has_twice parents) (Err ParentTwice)
+    (cond (eqb (bookings w) most_bookings) (Err Full)
     done))
 
 -- The other calls first test the workspace. Their test is `test_of`; that the section takes it as a parameter, as `damage_by` takes its searches, lets
@@ -122,9 +116,9 @@ module _ (test : List ℕ → Tested) where
   abbrev pub book_answer : List ℕ → ℕ → ℕ → List ℕ → Answer
   book_answer w name slot parents =
       tested w
-      (cond (is_found (look_up w name)) (Refused NameTaken)
-      (cond (is_bad_slot slot) (Refused BadSlot)
-      (cond (is_bad_count (length parents)) (Refused BadParents)
+      (cond (is_found (look_up w name)) (Err NameTaken)
+      (cond (is_bad_slot slot) (Err BadSlot)
+      (cond (is_bad_count (length parents)) (Err BadParents)
       (parents_answer w parents))))
 
   abbrev pub book_by : List ℕ → ℕ → ℕ → List ℕ → Outcome
@@ -136,9 +130,9 @@ module _ (test : List ℕ → Tested) where
   poll_answer w name votes =
       tested w
       (asked_of (look_up w name) (λ i.
-      cond (is_polled w i) (Refused NotWaiting)
-      (cond (is_miscounted w (length votes)) (Refused WrongVotes)
-      (cond (has_refused_vote votes) (Refused BadVote)
+      cond (is_polled w i) (Err NotWaiting)
+      (cond (is_miscounted w (length votes)) (Err WrongVotes)
+      (cond (has_refused_vote votes) (Err BadVote)
       done))))
 
   abbrev pub poll_by : List ℕ → ℕ → List ℕ → Outcome
@@ -147,7 +141,7 @@ module _ (test : List ℕ → Tested) where
   -- ---- readings: 1, 2, 14, 15, 10
 
   abbrev pub reading_by : (ℕ → ℤ) → List ℕ → ℕ → Answer
-  reading_by reading w name = tested w (asked_of (look_up w name) (λ i. Taken (reading i)))
+  reading_by reading w name = tested w (asked_of (look_up w name) (λ i. Ok (reading i)))
 
   abbrev pub read_by : Reading → List ℕ → ℕ → Answer
   read_by what w = reading_by (reading_of what w) w

@@ -5,7 +5,7 @@ ghost use Rattle.sound.specs.Held.{counted, held_below};
 
 use rules::layout;
 
-// One booking more for slot s, unless it is past the end.
+// One booking more for slot s, unless it is past the end. By index: `get_mut` leaves a goal about a name of the kit's own.
 fn count(held: &mut [u16], s: usize)
     requires { (length held.old ≡ slots) × (get_or held.old s 0 < most_bookings) }
     ensures { held.new ≡ counted s held.old }

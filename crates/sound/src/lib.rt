@@ -9,25 +9,23 @@ ghost use Rattle.rules.specs.Layout.{size};
 ghost use Rattle.rules.specs.Calls.{damage_of};
 
 use rules::layout;
-use terms::answer::{Refusal, Tested};
+use terms::answer::Refusal;
 
 // The first damage of a workspace of the right length: in the header, or the lowest record row, or the lowest slot, that breaks a rule.
-pub fn damage(w: &[u16]) -> Tested
+pub fn damage(w: &[u16]) -> Result<(), Refusal>
     requires { length w.now ≡ size }
     ensures { result ≡ damage_of w.now }
 {
     if !sound_rows::header::header_good(w) {
-        return Tested::Stop(Refusal::DamagedHeader);
+        return Err(Refusal::DamagedHeader);
     }
     let n = words::wide(words::header(w, layout::BOOKINGS));
     let limit = sound_records::chits(w, n);
-    let row = sound_records::bad_row(w, n, limit);
-    if row != sound_records::ROWS {
-        return Tested::Stop(Refusal::DamagedRecord(row as u16));
+    if let Some(row) = sound_records::bad_row(w, n, limit) {
+        return Err(Refusal::DamagedRecord(row as u16));
     }
-    let slot = entries::bad_slot(w, n, limit);
-    if slot != layout::SLOTS {
-        return Tested::Stop(Refusal::DamagedSlot(slot as u16));
+    if let Some(slot) = entries::bad_slot(w, n, limit) {
+        return Err(Refusal::DamagedSlot(slot as u16));
     }
-    Tested::Fine
+    Ok(())
 }

@@ -1,4 +1,3 @@
 -- Laws of searches that stop early, and of the bits that the pass keeps. They assume nothing.
-pub mod Searches
 pub mod Seen
 pub mod RecordRows

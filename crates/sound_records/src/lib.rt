@@ -5,7 +5,7 @@
 mod ordinals;
 
 ghost use Rattle.std.specs.Prelude.{◌≡◌, not, ◌<◌};
-ghost use Rattle.loops.specs.Search.{first};
+ghost use Rattle.loops.specs.Search.{first, found_below};
 ghost use Rattle.rules.specs.Layout.{polls};
 ghost use Rattle.rules.specs.IsSound.{chits, name_new, booking_good, record_good, record_rows, bad_record};
 ghost use Rattle.bits.specs.Members.{no_bits};
@@ -17,19 +17,12 @@ ghost use Rattle.sound_records.specs.Rest.{is_clear};
 
 use rules::layout;
 
-// A row for each record, and one more: in a full ledger a missing ordinal is charged to number 512.
-pub const ROWS: usize = layout::MOST_BOOKINGS + 1;
-
 // How many of the n records are in state 2.
 pub fn chits(w: &[u16], n: usize) -> usize
     requires { HasBookings w.now n }
     ensures { result ≡ chits w.now }
 {
-    let mut found = 0;
-    for i in 0..n {
-        found += words::chit(w, i);
-    }
-    found
+    (0..n).map(|i| words::chit(w, i)).sum()
 }
 
 // A record below n other than the genesis, where seen has the ordinals of the lower ones, fresh tells that none of them has its name, and single that
@@ -61,8 +54,8 @@ fn record_good(w: &[u16], i: usize, limit: usize, seen: &[u64], fresh: bool, sin
     booking_good(w, i, seen, fresh, single) & (confidence <= limit)
 }
 
-// The lowest of the n records that breaks a rule, or n. The ordinals of those before it are seen then. The filter, of no names at first, and the bits
-// of marked slots, none of them set at first, are scratch.
+// The lowest of the n records that breaks a rule, if any does. The ordinals of those before it are seen then. The filter, of no names at first, and the
+// bits of marked slots, none of them set at first, are scratch.
 fn bad_record(
     w: &[u16],
     n: usize,
@@ -70,52 +63,47 @@ fn bad_record(
     seen: &mut [u64],
     filter: &mut [u64],
     marked: &mut [u64],
-) -> usize
+) -> Option<usize>
     requires has_bookings { HasBookings w.now n × Reached w.now 0 seen.old × (limit ≡ chits w.now) }
     requires filter_value { (filter.old ≡ names_below w.now 0) × (marked.old ≡ no_bits) }
-    ensures { (result ≡ first (λ i. not (record_good w.now i)) n) × (seen.new ≡ ordinals_below w.now result) }
+    ensures { (result ≡ found_below n (first (λ i. not (record_good w.now i)) n))
+        × (seen.new ≡ ordinals_below w.now (first (λ i. not (record_good w.now i)) n)) }
 {
     for i in 0..n {
         let fresh = name_filter::enter(w, i, filter);
         let single = marked_slots::mark_good(w, i, marked);
         if !record_good(w, i, limit, seen, fresh, single) {
-            return i;
+            return Some(i);
         }
         let o = words::wide_field(w, i, layout::ORDINAL);
         bits::set_bit(seen, o);
         marked_slots::note_mark(w, i, marked);
     }
-    n
+    None
 }
 
-// The lowest row from n on whose record is not all zero, or 513.
-fn stray_record(w: &[u16], n: usize) -> usize
+// The lowest row from n on whose record is not all zero, if there is one.
+fn stray_record(w: &[u16], n: usize) -> Option<usize>
     requires { HasBookings w.now n }
-    ensures { result ≡ first (λ i. not (is_clear w.now i)) record_rows }
+    ensures { result ≡ found_below record_rows (first (λ i. not (is_clear w.now i)) record_rows) }
 {
-    for i in n..layout::MOST_BOOKINGS {
-        if !sound_rows::record::record_zero(w, i) {
-            return i;
-        }
-    }
-    ROWS
+    (n..layout::MOST_BOOKINGS).find(|i| !sound_rows::record::record_zero(w, *i))
 }
 
-// The lowest row that breaks a rule, or 513: a record below n, then n for a missing ordinal, then a record that is not all zero.
-pub fn bad_row(w: &[u16], n: usize, limit: usize) -> usize
+// The lowest row that breaks a rule, if any does: a record below n, then n for a missing ordinal, then a record that is not all zero.
+pub fn bad_row(w: &[u16], n: usize, limit: usize) -> Option<usize>
     requires { HasBookings w.now n × (polls w.now < n) × (limit ≡ chits w.now) }
-    ensures { result ≡ bad_record w.now }
+    ensures { result ≡ found_below record_rows (bad_record w.now) }
 {
     let p = words::wide(words::header(w, layout::POLLS));
     let mut seen = [0u64; bits::BIT_WORDS];
     let mut filter = [0u64; name_filter::FILTER_WORDS];
     let mut marked = [0u64; bits::BIT_WORDS];
-    let row = bad_record(w, n, limit, &mut seen, &mut filter, &mut marked);
-    if row != n {
-        return row;
+    if let Some(row) = bad_record(w, n, limit, &mut seen, &mut filter, &mut marked) {
+        return Some(row);
     }
-    if ordinals::all_seen(&seen, p) {
-        return stray_record(w, n);
+    if !ordinals::all_seen(&seen, p) {
+        return Some(n);
     }
-    n
+    stray_record(w, n)
 }

@@ -22,10 +22,7 @@ fn is_booking_of(w: &[u16], n: usize, s: usize, i: usize) -> bool
     requires { HasBookings w.now n }
     ensures { result ≡ is_booking_of w.now s i }
 {
-    if i < n {
-        return words::wide_field(w, i, layout::SLOT) == s;
-    }
-    false
+    i < n && words::wide_field(w, i, layout::SLOT) == s
 }
 
 // The number of bookings is the true one, preferred and last are bookings of the slot, the counter is within the limit.

@@ -35,11 +35,11 @@ pub fn parents_good(w: &[u16], i: usize) -> bool
     let b = words::parent(w, i, 1);
     let c = words::parent(w, i, 2);
     let d = words::parent(w, i, 3);
-    !(a == NO_PARENT)
-        & (!(b == NO_PARENT) | (c == NO_PARENT))
-        & (!(c == NO_PARENT) | (d == NO_PARENT))
+    (a != NO_PARENT)
+        & ((b != NO_PARENT) | (c == NO_PARENT))
+        & ((c != NO_PARENT) | (d == NO_PARENT))
         & ((a == NO_PARENT) | (a < i))
-        & ((b == NO_PARENT) | ((b < i) & !(a == b)))
+        & ((b == NO_PARENT) | ((b < i) & (a != b)))
         & ((c == NO_PARENT) | ((c < i) & !((a == c) | (b == c))))
         & ((d == NO_PARENT) | ((d < i) & !((a == d) | (b == d) | (c == d))))
 }
@@ -53,8 +53,7 @@ pub fn state_good(w: &[u16], i: usize) -> bool
     let p = words::header(w, layout::POLLS);
     match vote::read_state(words::field(w, i, layout::STATE)) {
         State::Waiting => (o == 0) & (o <= p),
-        State::NoChit => !(o == 0) & (o <= p),
-        State::Chit => !(o == 0) & (o <= p),
+        State::NoChit | State::Chit => (o != 0) & (o <= p),
         State::Unknown => false,
     }
 }
@@ -64,10 +63,7 @@ pub fn record_zero(w: &[u16], i: usize) -> bool
     requires { (length w.now ≡ size) × (i < most_bookings) }
     ensures { result ≡ record_zero w.now i }
 {
-    for f in 0..layout::RECORD_WORDS {
-        if words::field(w, i, f) != 0 {
-            return false;
-        }
-    }
-    true
+    words::fields(w, i, 0, layout::RECORD_WORDS)
+        .iter()
+        .all(|word| *word == 0)
 }

@@ -3,8 +3,7 @@ use Prim.Native.Nat.{ℕ}
 use mathlib.Core.Path.{◌≡◌, ap, ◌∙◌}
 use mathlib.Core.List.{List}
 use lib.IntN.{ℤ}
-use Rattle.terms.specs.declared.answer.Answer.{Answer}
-use Rattle.terms.specs.Answers.{Outcome, outcome, Handover, handover, number, value}
+use Rattle.terms.specs.Answers.{Outcome, outcome, Handover, handover, number, value, Answer}
 use Rattle.station.specs.Returned.{Returned, Handed, HandedOver}
 
 -- of a reading, whose call is an answer

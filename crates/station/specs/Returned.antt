@@ -1,7 +1,6 @@
 -- What the C face hands over of a call: its number, its value, and the words that it leaves; of one with a second buffer its bytes too.
 use Rattle.std.specs.Prelude.{ℕ, ◌≡◌, List, ℤ}
-use Rattle.terms.specs.declared.answer.Answer.{Answer}
-use Rattle.terms.specs.Answers.{Outcome, Handover, number, value}
+use Rattle.terms.specs.Answers.{Outcome, Handover, number, value, Answer}
 
 -- the number r returned and the value v written are those of the answer
 pub record Returned (a : Answer) (r : ℕ) (v : ℤ) : Type 0 where

@@ -10,16 +10,17 @@ ghost use Rattle.name_index.specs.Calls.{index_build_call, index_enter_call, ind
 ghost use Rattle.station.specs.Returned.{Returned, Handed, HandedOver};
 ghost use Rattle.terms.specs.Setting.{setting_of};
 
+use terms::answer;
 use terms::answer::Answer;
 use terms::form::Form;
 use terms::setting::Setting;
 
 // An answer as its number and its value.
-fn tell(answer: Answer, value: &mut i64) -> u32
-    ensures { Returned answer result value.new }
+fn tell(told: Answer, value: &mut i64) -> u32
+    ensures { Returned told result value.new }
 {
-    *value = answer.value();
-    answer.number()
+    *value = answer::value(told);
+    answer::number(told)
 }
 
 // The words become a ledger with the genesis only. Refusals 1, 3.

@@ -1,5 +1,5 @@
 -- Document 01, "Numbers a caller gets back": the number and the value of every answer, and what a call leaves.
-use Rattle.std.specs.Prelude.{ℕ, Bool, true, false, List, ℤ, pos}
+use Rattle.std.specs.Prelude.{ℕ, Bool, true, false, List, ℤ, pos, Result, Ok, Err, ⊤}
 use Rattle.terms.specs.declared.answer.Refusal.{Refusal}
 use Rattle.terms.specs.declared.answer.Refusal.TheVariants.{
   WrongLength,
@@ -23,8 +23,14 @@ use Rattle.terms.specs.declared.answer.Refusal.TheVariants.{
   OtherMarks,
   IndexFull,
 }
-use Rattle.terms.specs.declared.answer.Answer.{Answer}
-use Rattle.terms.specs.declared.answer.Answer.TheVariants.{Taken, Refused}
+
+-- what a call answers: the value of a taken one, or why it is refused
+abbrev pub Answer : Type 0
+Answer = Result ℤ Refusal
+
+-- what a test of lent memory tells: that nothing stops the call, or what does
+abbrev pub Tested : Type 0
+Tested = Result ⊤ Refusal
 
 abbrev pub refusal_number : Refusal → ℕ
 refusal_number WrongLength = 1
@@ -73,21 +79,21 @@ refusal_row IndexFull = 0
 
 -- a taken call returns 0 and its value, a refusal its number and its row
 abbrev pub number : Answer → ℕ
-number (Taken v) = 0
-number (Refused r) = refusal_number r
+number (Ok v) = 0
+number (Err r) = refusal_number r
 
 abbrev pub value : Answer → ℤ
-value (Taken v) = v
-value (Refused r) = pos (refusal_row r)
+value (Ok v) = v
+value (Err r) = pos (refusal_row r)
 
 -- its number is 0
 abbrev pub is_taken : Answer → Bool
-is_taken (Taken v) = true
-is_taken (Refused r) = false
+is_taken (Ok v) = true
+is_taken (Err r) = false
 
 -- open, book, poll, reading a file, and building and entering an index have value 0
 abbrev pub done : Answer
-done = Taken (pos 0)
+done = Ok (pos 0)
 
 -- what a call gives: its answer, and the words that it leaves; of a move, the bytes of its output
 pub record Outcome : Type 0 where
@@ -99,8 +105,8 @@ outcome a w = record { answer = a; words = w }
 
 -- a taken call leaves what it makes, and a refused one every word
 abbrev pub leaves : Answer → (before after : List ℕ) → Outcome
-leaves (Taken v) before after = outcome (Taken v) after
-leaves (Refused r) before after = outcome (Refused r) before
+leaves (Ok v) before after = outcome (Ok v) after
+leaves (Err r) before after = outcome (Err r) before
 
 -- what a call with a second lent buffer gives: its answer, and the words and the buffer that it leaves
 pub record Handover : Type 0 where
@@ -113,5 +119,5 @@ handover a w b = record { answer = a; words = w; lent = b }
 
 -- a taken call that hands something over leaves it in the buffer, and a refused one the buffer as it was; no such call changes a word
 abbrev pub hands_over : Answer → (words before after : List ℕ) → Handover
-hands_over (Taken v) words before after = handover (Taken v) words after
-hands_over (Refused r) words before after = handover (Refused r) words before
+hands_over (Ok v) words before after = handover (Ok v) words after
+hands_over (Err r) words before after = handover (Err r) words before

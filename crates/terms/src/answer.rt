@@ -1,4 +1,4 @@
-// What a call answers, what a test tells and what a lookup finds.
+// What a call answers, and why it may be refused.
 ghost use Rattle.std.specs.Prelude.{◌≡◌};
 ghost use Rattle.terms.specs.Answers.{number, refusal_number, refusal_row, value};
 
@@ -30,11 +30,7 @@ pub enum Refusal {
 
 // Every call answers so. Open, book, poll, reading a file, building an index and entering are taken with value 0, a file is written or moved with its length,
 // and a name is looked up with its booking's number.
-#[derive(Clone, Copy)]
-pub enum Answer {
-    Taken(i64),
-    Refused(Refusal),
-}
+pub type Answer = Result<i64, Refusal>;
 
 // Which of the five readings is asked for.
 #[derive(Clone, Copy)]
@@ -46,20 +42,7 @@ pub enum Reading {
     Size,
 }
 
-// Whether lent words are a ledger, or what stops a call on them.
-#[derive(Clone, Copy)]
-pub enum Tested {
-    Fine,
-    Stop(Refusal),
-}
-
-// The number of a booking, or that there is none.
-#[derive(Clone, Copy)]
-pub enum Found {
-    At(usize),
-    Absent,
-}
-
+// Two numbers of one refusal, so neither is its `From`.
 impl Refusal {
     pub fn number(self) -> u32
         ensures { result ≡ refusal_number self }
@@ -93,48 +76,28 @@ impl Refusal {
         ensures { result ≡ refusal_row self }
     {
         match self {
-            Refusal::WrongLength => 0,
-            Refusal::DamagedHeader => 0,
-            Refusal::BadSetting => 0,
-            Refusal::NameTaken => 0,
-            Refusal::BadSlot => 0,
-            Refusal::BadParents => 0,
-            Refusal::UnknownParent => 0,
-            Refusal::ParentTwice => 0,
-            Refusal::Full => 0,
-            Refusal::UnknownName => 0,
-            Refusal::NotWaiting => 0,
-            Refusal::WrongVotes => 0,
-            Refusal::BadVote => 0,
-            Refusal::DamagedRecord(row) => row,
-            Refusal::DamagedSlot(row) => row,
-            Refusal::ShortBuffer => 0,
-            Refusal::BadFile => 0,
-            Refusal::WrongIndex => 0,
-            Refusal::OtherMarks => 0,
-            Refusal::IndexFull => 0,
+            Refusal::DamagedRecord(row) | Refusal::DamagedSlot(row) => row,
+            _ => 0,
         }
     }
 }
 
-impl Answer {
-    // 0 for a taken call, else the refusal's number.
-    pub fn number(self) -> u32
-        ensures { result ≡ number self }
-    {
-        match self {
-            Answer::Taken(_) => 0,
-            Answer::Refused(refusal) => refusal.number(),
-        }
+// 0 for a taken call, else the refusal's number.
+pub fn number(answer: Answer) -> u32
+    ensures { result ≡ number answer }
+{
+    match answer {
+        Ok(_) => 0,
+        Err(refusal) => refusal.number(),
     }
+}
 
-    // The value of a taken call, else the refusal's row.
-    pub fn value(self) -> i64
-        ensures { result ≡ value self }
-    {
-        match self {
-            Answer::Taken(taken) => taken,
-            Answer::Refused(refusal) => refusal.row() as i64,
-        }
+// The value of a taken call, else the refusal's row.
+pub fn value(answer: Answer) -> i64
+    ensures { result ≡ value answer }
+{
+    match answer {
+        Ok(taken) => taken,
+        Err(refusal) => i64::from(refusal.row()),
     }
 }

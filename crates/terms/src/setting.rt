@@ -2,7 +2,8 @@
 ghost use Rattle.std.specs.Prelude.{◌≡◌};
 ghost use Rattle.terms.specs.Setting.{is_good, paper_setting};
 
-// k votes in a poll, a yes votes needed, beta1 and beta2, and the edition of the rules.
+// k votes in a poll, a yes votes needed, beta1 and beta2, and the edition of the rules. The edition is a number: any other than the two is refused,
+// with 3, and C hands it over so.
 #[derive(Clone, Copy)]
 pub struct Setting {
     pub k: u16,

@@ -10,7 +10,7 @@ pub enum Vote {
     Refused,
 }
 
-// A byte is the signed number that the station sent: 255 is -1, a no, and never a large yes.
+// A byte is the signed number that the station sent: 255 is -1, a no, and never a large yes. A function of this name, where `From` would say no more.
 #[tactic(auto, unfolding(crate::specs::Votes::vote_of))]
 pub fn read_vote(byte: u8) -> Vote
     ensures { result ≡ vote_of byte }

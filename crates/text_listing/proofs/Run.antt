@@ -11,10 +11,8 @@ use Rattle.loops.specs.Rows.{walk_from}
 use Rattle.terms.specs.declared.setting.Setting.{Setting}
 use Rattle.terms.specs.Setting.{setting_of}
 use Rattle.terms.specs.Editions.{restart, enough, failure_clears}
-use Rattle.terms.specs.declared.answer.Answer.{Answer}
-use Rattle.terms.specs.declared.answer.Tested.{Tested}
 use Rattle.terms.specs.declared.answer.Reading.{Reading}
-use Rattle.terms.specs.Answers.{Outcome, done}
+use Rattle.terms.specs.Answers.{Outcome, done, Answer, Tested}
 use Rattle.terms.specs.Votes.{vote_of}
 use Rattle.rules.specs.Layout.{size}
 use Rattle.rules.specs.Ancestry.{ancestry, sweep, spread}

@@ -1,12 +1,11 @@
 -- Document 01, "The text program": after the header one line for each booking, in rising number.
-use Rattle.std.specs.Prelude.{ℕ, zero, suc, ◌+◌, ◌*◌, List, [], ◌∷◌, ◌++◌, length}
+use Rattle.std.specs.Prelude.{ℕ, zero, suc, ◌+◌, ◌*◌, List, [], ◌∷◌, ◌++◌, length, Err, Ok}
 use Rattle.loops.specs.Total.{bit}
-use Rattle.terms.specs.declared.answer.Answer.{Answer}
-use Rattle.terms.specs.declared.answer.Answer.TheVariants.{Taken, Refused}
 use Rattle.rules.specs.Layout.{most_bookings, bookings, slot_of, state_of, confidence_of}
 use Rattle.rules.specs.Readings.{is_preferred, accepted_of}
 use Rattle.text_print.specs.Print.{refusal_prints}
 use Rattle.text_print.specs.Columns.{list_header, field_most, row_prints}
+use Rattle.terms.specs.Answers.{Answer}
 
 -- number, slot, state, confidence, preferred, accepted
 unfoldable pub list_row : List ℕ → ℕ → List ℕ
@@ -22,8 +21,8 @@ list_prints w = list_header ++ rows_print w (bookings w)
 
 -- a taken `list` prints the listing
 abbrev pub list_shows : Answer → List ℕ → List ℕ
-list_shows (Taken v) w = list_prints w
-list_shows (Refused r) w = refusal_prints r
+list_shows (Ok v) w = list_prints w
+list_shows (Err r) w = refusal_prints r
 
 -- ---- how many bytes each takes at most
 

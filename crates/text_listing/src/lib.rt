@@ -2,7 +2,6 @@
 #![tactic(auto)]
 
 ghost use Rattle.std.specs.Prelude.{◌≡◌, ◌+◌, ◌*◌, ◌<◌, ◌≤◌, length};
-ghost use Rattle.loops.specs.Total.{bit};
 ghost use Rattle.rules.specs.Layout.{bookings};
 ghost use Rattle.rules.specs.Sound.{Ledger};
 ghost use Rattle.put.specs.Put.{Put};
@@ -15,28 +14,22 @@ use rules::layout;
 // The most bytes that a listing takes.
 pub const LINE_MOST: usize = 64560;
 
-// 1 for yes, 0 for no.
-fn flag(b: bool) -> u64
-    ensures { result ≡ bit b }
-{
-    if b { 1 } else { 0 }
-}
-
 // Number, slot, state, confidence, preferred, accepted.
+#[tactic(auto, unfolding(crate::specs::Listed::list_row))]
 fn row_of(w: &[u16], i: usize) -> [u64; 6]
     requires { Ledger w.now × (i < bookings w.now) }
     ensures { result ≡ list_row w.now i }
 {
     let slot = booking::slot_of(w, i);
     let state = words::wide_field(w, i, layout::STATE);
-    let confidence = words::wide(booking::confidence_of(w, i));
-    let preferred = flag(preference::is_preferred(w, i));
-    let accepted = flag(booking::is_accepted(w, i));
+    let confidence = u64::from(booking::confidence_of(w, i));
+    let preferred = u64::from(preference::is_preferred(w, i));
+    let accepted = u64::from(booking::is_accepted(w, i));
     [
         i as u64,
         slot as u64,
         state as u64,
-        confidence as u64,
+        confidence,
         preferred,
         accepted,
     ]

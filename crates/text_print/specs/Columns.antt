@@ -1,5 +1,5 @@
 -- Document 01, "The text program": the lines of the listing. Each ends with a line feed.
-use Rattle.std.specs.Prelude.{ℕ, ◌+◌, cond, List, [], ◌∷◌, ◌++◌, ltb}
+use Rattle.std.specs.Prelude.{ℕ, List, [], ◌∷◌, ◌++◌}
 use Rattle.text_bytes.specs.Bytes.{bytes, line_feed, space}
 use Rattle.text_put.specs.Decimal.{decimal}
 
@@ -16,10 +16,6 @@ field_prints v after = decimal v ++ (after ∷ [])
 abbrev pub end_of : List ℕ → ℕ
 end_of [] = line_feed
 end_of (v ∷ vs) = space
-
--- the same of field j of n
-abbrev pub end_at : ℕ → ℕ → ℕ
-end_at j n = cond (ltb (j + 1) n) space line_feed
 
 unfoldable pub row_prints : List ℕ → List ℕ
 row_prints [] = []

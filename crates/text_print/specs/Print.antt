@@ -1,9 +1,7 @@
 -- Document 01, "The text program": what is printed. Every printed line ends with a line feed.
-use Rattle.std.specs.Prelude.{ℕ, List, [], ◌∷◌, ◌++◌}
+use Rattle.std.specs.Prelude.{ℕ, List, [], ◌∷◌, ◌++◌, Err, Ok}
 use Rattle.terms.specs.declared.answer.Refusal.{Refusal}
-use Rattle.terms.specs.declared.answer.Answer.{Answer}
-use Rattle.terms.specs.declared.answer.Answer.TheVariants.{Taken, Refused}
-use Rattle.terms.specs.Answers.{refusal_number}
+use Rattle.terms.specs.Answers.{refusal_number, Answer}
 use Rattle.text_bytes.specs.Bytes.{bytes, line_feed}
 use Rattle.text_put.specs.Decimal.{decimal, signed}
 
@@ -27,13 +25,13 @@ refusal_prints r = refused_text ++ (decimal (refusal_number r) ++ (line_feed ∷
 
 -- a reading prints its value
 abbrev pub reading_prints : Answer → List ℕ
-reading_prints (Taken v) = signed v ++ (line_feed ∷ [])
-reading_prints (Refused r) = refusal_prints r
+reading_prints (Ok v) = signed v ++ (line_feed ∷ [])
+reading_prints (Err r) = refusal_prints r
 
 -- other taken calls print nothing
 abbrev pub call_prints : Answer → List ℕ
-call_prints (Taken v) = []
-call_prints (Refused r) = refusal_prints r
+call_prints (Ok v) = []
+call_prints (Err r) = refusal_prints r
 
 -- how many bytes an answer takes at most: "refused ", twenty digits and a line feed, with some to spare
 abbrev pub answer_most : ℕ

@@ -1,9 +1,9 @@
 // The listing's first line and its rows, written into a lent buffer from an offset on; the answer is the offset after it.
 // The caller sees to the room: specs/Columns.antt has what each prints and how long it can be.
-ghost use Rattle.std.specs.Prelude.{◌≡◌, ◌+◌, ◌*◌, ◌<◌, ◌≤◌, length};
+ghost use Rattle.std.specs.Prelude.{◌≡◌, ◌+◌, ◌*◌, ◌≤◌, length};
 ghost use Rattle.put.specs.Put.{Put, Room};
 ghost use Rattle.text_print.specs.Columns.{
-  end_at,
+  end_of,
   field_prints,
   field_most,
   list_header,
@@ -24,12 +24,11 @@ pub fn put_list_header(out: &mut [u8], at: usize) -> usize
     )
 }
 
-// What follows field j of n.
-fn end_of(j: usize, n: usize) -> u8
-    requires { j < n }
-    ensures { result ≡ end_at j n }
+// What follows a field, by the fields after it.
+fn end_of(rest: &[u64]) -> u8
+    ensures { result ≡ end_of rest.now }
 {
-    if j + 1 < n { b' ' } else { b'\n' }
+    if rest.is_empty() { b'\n' } else { b' ' }
 }
 
 // A number and the byte after it.
@@ -48,8 +47,10 @@ pub fn put_row(out: &mut [u8], at: usize, fields: &[u64]) -> usize
     ensures { Put out.old at (row_prints fields.now) result out.new }
 {
     let mut next = at;
-    for j in 0..fields.len() {
-        next = put_field(out, next, fields[j], end_of(j, fields.len()));
+    let mut fields = fields;
+    while let Some((field, rest)) = fields.split_first() {
+        next = put_field(out, next, *field, end_of(rest));
+        fields = rest;
     }
     next
 }

@@ -51,12 +51,12 @@ pub fn put_reading(out: &mut [u8], at: usize, answer: Answer) -> usize
     ensures { Put out.old at (reading_prints answer) result out.new }
 {
     match answer {
-        Answer::Taken(value) => {
+        Ok(value) => {
             let end = put_signed(out, at, value);
             out[end] = b'\n';
             end + 1
         }
-        Answer::Refused(refusal) => put_refusal(out, at, refusal),
+        Err(refusal) => put_refusal(out, at, refusal),
     }
 }
 
@@ -66,7 +66,7 @@ pub fn put_call(out: &mut [u8], at: usize, answer: Answer) -> usize
     ensures { Put out.old at (call_prints answer) result out.new }
 {
     match answer {
-        Answer::Taken(_) => at,
-        Answer::Refused(r) => put_refusal(out, at, r),
+        Ok(_) => at,
+        Err(r) => put_refusal(out, at, r),
     }
 }

@@ -1,11 +1,11 @@
 -- Each line leaves a ledger or words that are all zero. Assumes nothing.
+use Rattle.std.specs.Prelude.{Err, Ok}
 use mathlib.Core.Path.{◌≡◌, refl}
 use mathlib.Core.Bool.{Bool, true, false, ◌||◌}
 use mathlib.Core.List.{List, [], ◌∷◌}
 use mathlib.Core.Logic.{◌⊎◌, inl, inr}
 use Prim.Native.Nat.{ℕ}
 use Rattle.terms.specs.declared.answer.Refusal.TheVariants.{DamagedHeader}
-use Rattle.terms.specs.declared.answer.Tested.TheVariants.{Fine, Stop}
 use Rattle.rules.specs.Calls.{test_of}
 use Rattle.rule_laws.proofs.Tested.{ledger_fine}
 use Rattle.line_serve.specs.Serve.{Keeps, opens, served}
@@ -24,7 +24,7 @@ pub program_keeps : ProgramKeeps
 unfolding ProgramKeeps
 program_keeps lines = after_kept zeros lines false refl
 
-gives : (w : List ℕ) (opened : Bool) → Keeps opened w → (test_of w ≡ Fine) ⊎ (test_of w ≡ Stop DamagedHeader)
+gives : (w : List ℕ) (opened : Bool) → Keeps opened w → (test_of w ≡ Ok tt) ⊎ (test_of w ≡ Err DamagedHeader)
 gives w true k = inl (ledger_fine w k)
 gives w false k = inr (unopened_stop w false k refl)
 

@@ -1,28 +1,18 @@
 -- Laws of the lines by their place in the input: where the first ends, and what follows it.
 use mathlib.Core.Path.{◌≡◌, refl, ap}
 use mathlib.Core.Bool.{Bool, true, false}
-use mathlib.Core.Logic.{◌≢◌}
 use mathlib.Core.List.{List, [], ◌∷◌}
 use Prim.Native.Nat.{ℕ, suc, ◌+◌, ◌<◌, ◌≤◌}
 use native.Mathlib.Omega.{arith}
 use lib.Dec.{eqb}
 use lib.ListN.{length, get_or, take, drop}
 use lib.Seq.{drop-cons, drop-drop}
-use borrow.Author.Tests.{eq-eqb, ne_eqb}
 use Rattle.text_bytes.specs.Bytes.{line_feed}
 use Rattle.line_words.specs.Words.{before}
 use Rattle.text_program.specs.Program.{lines}
 use Rattle.text_program.specs.Piece.{line_end}
 
--- ---- where the first line ends, as it is searched for
-
-pub end_feed : (input : List ℕ) (i : ℕ) → i < length input → get_or input i 0 ≡ line_feed → line_end (drop i input) ≡ 0
-unfolding line_end
-end_feed input i h e = rw (drop-cons input i 0 h) (rw (line_end, eq-eqb (get_or input i 0) line_feed e))
-
-pub end_other : (input : List ℕ) (i : ℕ) → i < length input → get_or input i 0 ≢ line_feed → line_end (drop i input) ≡ suc (line_end (drop (suc i) input))
-unfolding line_end
-end_other input i h n = rw (drop-cons input i 0 h) (rw (line_end, ne_eqb (get_or input i 0) line_feed n))
+-- ---- where the first line ends
 
 -- what the definitions say of one byte more, by whether it is a line feed
 module _ (b : ℕ) (input : List ℕ) where

@@ -1,7 +1,6 @@
 -- CR 1 on the console: what the program's words are at any time, and so which damage it can tell of.
-use Rattle.std.specs.Prelude.{◌≡◌, Bool, false, ◌||◌, List, [], ◌∷◌, ◌⊎◌, ℕ}
+use Rattle.std.specs.Prelude.{◌≡◌, Bool, false, ◌||◌, List, [], ◌∷◌, ◌⊎◌, ℕ, Err, Ok}
 use Rattle.terms.specs.declared.answer.Refusal.TheVariants.{DamagedHeader}
-use Rattle.terms.specs.declared.answer.Tested.TheVariants.{Fine, Stop}
 use Rattle.rules.specs.Calls.{test_of}
 use Rattle.line_serve.specs.Serve.{Keeps, opens}
 use Rattle.text_program.specs.Program.{zeros}
@@ -19,4 +18,4 @@ ProgramKeeps = (lines : List (List ℕ)) → Keeps (has_opened false lines) (wor
 -- so the test that every call but open begins with stops at nothing, or at the header: of 1, 2, 14 and 15 such a call gives 2 alone
 unfoldable pub ProgramGivesTwo : Type 0
 ProgramGivesTwo =
-    (lines : List (List ℕ)) → (test_of (words_after zeros lines) ≡ Fine) ⊎ (test_of (words_after zeros lines) ≡ Stop DamagedHeader)
+    (lines : List (List ℕ)) → (test_of (words_after zeros lines) ≡ Ok tt) ⊎ (test_of (words_after zeros lines) ≡ Err DamagedHeader)

@@ -10,7 +10,8 @@ use text_listing::LINE_MOST;
 // The longest input that is taken.
 pub const INPUT_MOST: usize = 65536;
 
-// How many bytes were put into the buffer, where the next line starts, and whether the workspace is a ledger now.
+// How many bytes were put into the buffer, where the next line starts, and whether the workspace is a ledger now: a flag, since the words are there
+// either way.
 #[derive(Drop)]
 pub struct Piece {
     pub count: usize,
@@ -29,15 +30,10 @@ pub fn is_too_long(count: usize) -> bool
 pub fn line_end(input: &[u8]) -> usize
     ensures { result ≡ line_end input.now }
 {
-    for i in 0..input.len() {
-        if input[i] == b'\n' {
-            return i;
-        }
-    }
-    input.len()
+    line_words::find_byte(input, b'\n')
 }
 
-// Serves lines from `start` on, as long as the buffer has room for the longest that a line prints.
+// Serves lines from `start` on, as long as the buffer has room for the longest that a line prints. Its loop goes on by lines, and not by one.
 pub fn serve_piece(w: &mut [u16], known: bool, input: &[u8], start: usize, out: &mut [u8]) -> Piece
     requires { Ready w.old known out.old }
     ensures { Serves w.old input.now start out.old result w.new out.new }

@@ -16,15 +16,11 @@ use Rattle.text_bytes.specs.Bytes.{minus}
 use Rattle.text_put.specs.Decimal.{decimal, sign, signed}
 use Rattle.text_put.proofs.Decimals.{decimal_length}
 
--- below zero: what is left of it above -1, and one more than that is its size
-pub rest_below : (z : ℤ) → lt_z z (pos 0) ≡ true → negsuc 0 -ℤ z ≡ pos (mag z)
-rest_below (pos n) h = absurd (omega (arith, ltb-true n 0 h))
-rest_below (negsuc n) h = let e : suc n - 1 ≡ n = omega arith in rw (◌-ℤ◌, le-ltb (suc n) 1 (omega arith)) (ap pos e)
-
-pub signed_below : (z : ℤ) → lt_z z (pos 0) ≡ true → signed z ≡ (minus ∷ []) ++ decimal (mag z + 1)
+-- below zero
+pub signed_below : (z : ℤ) → lt_z z (pos 0) ≡ true → signed z ≡ (minus ∷ []) ++ decimal (nat_abs z)
 unfolding signed
 signed_below (pos n) h = absurd (omega (arith, ltb-true n 0 h))
-signed_below (negsuc n) h = rw (add-one n)
+signed_below (negsuc n) h = refl
 
 pub nat_abs_le : (z : ℤ) → nat_abs z ≤ mag z + 1
 nat_abs_le (pos n) = omega arith

@@ -13,7 +13,7 @@ use Rattle.loops.proofs.Search.{→all}
 use Rattle.text_bytes.specs.Bytes.{digit}
 use Rattle.text_put.specs.Decimal.{decimal}
 use Rattle.text_put.proofs.Decimals.{decimal_low, decimal_high, decimal_length}
-use Rattle.line_number.specs.declared.Number.TheVariants.{Value}
+use Rattle.std.proofs.Common.{Some}
 use Rattle.line_number.specs.Numbers.{digits_most, is_digit, value_of, is_number, number_read}
 use Rattle.line_number.proofs.Digits.{value_of_zero, value_of_more}
 
@@ -71,7 +71,7 @@ decimal_reads (suc f) n h = go (dec_lt n 10) (λ (l : 10 ≤ n). decimal_reads f
         rw (decimal_high n (omega arith)) (rw e at (reads_more (decimal (n / 10)) (n % 10) (omega arith) (n / 10) (tenth (omega arith))))
 
 -- a number printed reads back the same, wherever it is within the limit
-pub decimal_read : (most n : ℕ) → n ≤ most → n < 2 ^ 64 → number_read most (decimal n) ≡ Value n
+pub decimal_read : (most n : ℕ) → n ≤ most → n < 2 ^ 64 → number_read most (decimal n) ≡ Some n
 unfolding number_read is_number
 decimal_read most n h w =
     let r = decimal_reads n n (omega arith) in

@@ -1,7 +1,10 @@
 // Leaf readers and writers of the lent words. All index arithmetic lives here: everything above says header, record or slot entry.
+// Words are lent as slices, and each contract asks for their length: hosts lend any words, and a type that asks for it would ask more of callers.
+// Records and slot entries have readers and writers of their own: one over constants would promise offsets, where these promise the law's words.
 #![tactic(auto)]
 
 ghost use Rattle.std.specs.Prelude.{◌≡◌, ◌<◌, ◌≤◌, ◌*◌, ◌+◌, length, eqb};
+ghost use Rattle.std.proofs.lemmas.List.Edits.{sets};
 ghost use Rattle.loops.specs.Fill.{from};
 ghost use Rattle.loops.specs.Total.{bit};
 ghost use Rattle.rules.specs.Layout.{
@@ -12,6 +15,7 @@ ghost use Rattle.rules.specs.Layout.{
   slots,
   slot_words,
   header_words,
+  record_at,
   k_field,
   header,
   field,
@@ -28,17 +32,11 @@ use rules::layout;
 use terms::vote;
 use terms::vote::State;
 
-// A word as a wider number.
+// A word as a wider number: `usize::from`, with the bound that callers need.
 pub fn wide(x: u16) -> usize
     ensures { (result ≡ x) × (result < 65536) }
 {
-    x as usize
-}
-
-fn wide64(x: u16) -> u64
-    ensures { (result ≡ x) × (result < 65536) }
-{
-    x as u64
+    usize::from(x)
 }
 
 // Word f of the header.
@@ -90,7 +88,7 @@ pub fn wide_field(w: &[u16], i: usize, f: usize) -> usize
     requires { (length w.now ≡ size) × (i < most_bookings) × (f < record_words) }
     ensures { result ≡ field w.now i f }
 {
-    wide(field(w, i, f))
+    usize::from(field(w, i, f))
 }
 
 pub fn set_field(w: &mut [u16], i: usize, f: usize, v: u16)
@@ -99,6 +97,15 @@ pub fn set_field(w: &mut [u16], i: usize, f: usize, v: u16)
 {
     let at = layout::HEADER_WORDS + layout::RECORD_WORDS * i + f;
     w[at] = v;
+}
+
+// The words of record i from word f on become those of a row.
+pub fn set_fields(w: &mut [u16], i: usize, f: usize, row: &[u16])
+    requires { (length w.old ≡ size) × (i < most_bookings) × (f + length row.now ≤ record_words) }
+    ensures { w.new ≡ sets w.old (record_at i f) row.now }
+{
+    let place = layout::HEADER_WORDS + layout::RECORD_WORDS * i + f;
+    w[place..place + row.len()].copy_from_slice(row);
 }
 
 // Word f of slot entry s.
@@ -114,7 +121,7 @@ pub fn wide_entry(w: &[u16], s: usize, f: usize) -> usize
     requires { (length w.now ≡ size) × (s < slots) × (f < slot_words) }
     ensures { result ≡ entry w.now s f }
 {
-    wide(entry(w, s, f))
+    usize::from(entry(w, s, f))
 }
 
 pub fn set_entry(w: &mut [u16], s: usize, f: usize, v: u16)
@@ -130,10 +137,10 @@ pub fn name(w: &[u16], i: usize) -> u64
     requires { (length w.now ≡ size) × (i < most_bookings) }
     ensures { result ≡ name_of w.now i }
 {
-    let a = wide64(field(w, i, 0));
-    let b = wide64(field(w, i, 1));
-    let c = wide64(field(w, i, 2));
-    let d = wide64(field(w, i, 3));
+    let a = u64::from(field(w, i, 0));
+    let b = u64::from(field(w, i, 1));
+    let c = u64::from(field(w, i, 2));
+    let d = u64::from(field(w, i, 3));
     ((a * 65536 + b) * 65536 + c) * 65536 + d
 }
 
@@ -142,18 +149,13 @@ pub fn chit(w: &[u16], i: usize) -> usize
     requires { (length w.now ≡ size) × (i < most_bookings) }
     ensures { result ≡ bit (eqb (state_of w.now i) 2) }
 {
-    match vote::read_state(field(w, i, layout::STATE)) {
-        State::Waiting => 0,
-        State::NoChit => 0,
-        State::Chit => 1,
-        State::Unknown => 0,
-    }
+    usize::from(matches!(vote::read_state(field(w, i, layout::STATE)), State::Chit))
 }
 
-// The parent at place a of booking j, or 65535.
+// The parent at place a of booking j, or 65535. No Option: the contract is of the word as it stands.
 pub fn parent(w: &[u16], j: usize, a: usize) -> usize
     requires { (length w.now ≡ size) × (j < most_bookings) × (a < most_parents) }
     ensures { result ≡ parent_of w.now j a }
 {
-    wide(field(w, j, layout::PARENTS + a))
+    usize::from(field(w, j, layout::PARENTS + a))
 }

@@ -14,7 +14,6 @@ loop-j-preserved c =
     let w = c.args.w.now in
     let here : (turn.j - 1) / 64 ≡ c.args.q = omega arith in (
       omega arith,
-      omega arith,
       omega (arith, step.auto.m),
-      turn.invariant.3 ∙ sweep_turn w turn.j (members_with turn.m c.args.q turn.own) (omega arith) ∙ ap (sweep w _) (sym (rw (here) at step.ensures)),
+      turn.invariant.2 ∙ sweep_turn w turn.j (members_with turn.m c.args.q turn.own) (omega arith) ∙ ap (sweep w _) (sym (rw (here) at step.ensures)),
     )

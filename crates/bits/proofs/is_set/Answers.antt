@@ -1,7 +1,6 @@
 -- The bit is one of its word. Past the last word `get_or` gives 0, which has no bit set.
 use mathlib.Core.Path.{sym}
 use native.Mathlib.Omega.{arith}
-use borrow.Author.Rules.{rules}
 use Rattle.bits.specs.Bits.{bit_at}
 use Rattle.bits.proofs.Bits.{bit_at_past}
 use Rattle.bits.proofs.is_set.Goals as goal

@@ -1,5 +1,4 @@
 -- The language's count of ones, which a word's 64 bits bound.
-use native.Mathlib.Omega.{arith}
 use lib.Count.{ones-le}
 use Rattle.bits.proofs.Counted.{ones_bits}
 use Rattle.bits.proofs.ones.Goals as goal

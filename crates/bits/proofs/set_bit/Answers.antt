@@ -2,7 +2,6 @@
 use mathlib.Core.Path.{sym}
 use native.Mathlib.Omega.{arith}
 use lib.Seq.{set_out}
-use borrow.Author.Rules.{rules}
 use Rattle.bits.specs.Bits.{with_bit}
 use Rattle.bits.proofs.set_bit.Goals as goal
 

@@ -13,4 +13,4 @@ pub enter_slot-requires : goal.enter_slot-requires
 enter_slot-requires c =
     let short : length c.new_record-row.result ≤ record_words = omega (arith, ap length c.new_record-row.ensures) in
     let kept = entry_sets_record_kept c.args.w.now c.wide.result c.new_record-row.result c.wide-2.result held_field (search rules) short in
-    (search rules, search rules, rw (c.put_record.ensures, kept, c.wide-2.ensures.0) (omega (arith, held_most c.requires.0 c.args.slot (search rules))))
+    (search rules, search rules, rw (c.set_fields.ensures, kept, c.wide-2.ensures.0) (omega (arith, held_most c.requires.0 c.args.slot (search rules))))

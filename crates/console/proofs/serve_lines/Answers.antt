@@ -7,7 +7,7 @@ pub loop-start-preserved : goal.loop-start-preserved
 loop-start-preserved g c =
     let piece = c.serve_piece-piece in
     let wrote = c.loop-start.invariant.written in
-    let h = c.write_out.ensures c.if-not-write_out.false in
+    let h = c.in_ok-write_out.ensures in
     record {
       whole = search rules;
       room = search rules;
@@ -22,10 +22,10 @@ loop-start-preserved g c =
 
 -- where the input ends, nothing changes the words any more, and nothing is left to print
 pub returns-clause-words : goal.returns-clause-words
-returns-clause-words g c _ =
+returns-clause-words g c =
     sym (c.loop-start.invariant.after ∙ words_over c.loop-start.w c.args.input.now c.loop-start.start (omega arith))
 
 pub returns-clause-written : goal.returns-clause-written
-returns-clause-written g c _ =
+returns-clause-written g c =
     let wrote = c.loop-start.invariant.written in
     rw (wrote.2, printed_over c.loop-start.w c.args.input.now c.loop-start.start (omega arith), append-nil) wrote.1

@@ -11,5 +11,5 @@ loop-done-preserved g c =
     let rest : take (length bytes - done) (drop done bytes) ≡ drop done bytes = take_all _ _ (omega (arith, length-drop done bytes)) in
     record {
       within = search rules;
-      written = rw (take-add done c.in-Ok.count bytes) (Appends-trans _ _ _ _ _ c.loop-done.invariant.written (rw rest at c.in-Ok.ensures.bytes));
+      written = rw (take-add done c.in_ok-count.count bytes) (Appends-trans _ _ _ _ _ c.loop-done.invariant.written (rw rest at c.in_ok-count.ensures.bytes));
     }

@@ -1,16 +1,13 @@
--- Four numbers, each two bytes past the one before it, are the bytes of the name that they make.
+-- The eight bytes from the offset on are those of the number that they make.
+use native.Mathlib.Omega.{arith}
 use borrow.Author.Rules.{rules}
-use Rattle.day_get.proofs.Got.{name_got}
+use Rattle.std.proofs.lemmas.Nat.{be_bytes_8}
+use Rattle.day_get.proofs.Got.{bytes_small, bytes_got}
 use Rattle.day_get.proofs.name_at.Goals as goal
 
 pub returns : goal.returns
 returns c =
-    name_got c.args.file.now c.args.at
-    (search rules)
-    (search rules)
-    (search rules)
-    (search rules)
-    c.number_at-a.ensures
-    c.number_at-b.ensures
-    c.number_at-c.ensures
-    c.number_at-d.ensures
+    let chunk = rw c.unwrap-bytes.ensures at c.first_chunk.ensures.cases in
+    let file = c.args.file.now in
+    bytes_got file c.args.at 8 c.requires chunk.same c.from_be_bytes.result
+    (be_bytes_8 c.unwrap-bytes.result.now _ (search rules) (bytes_small file c.args.at 8 c.requires chunk.same (λ i. omega (arith, c.type_inv.file i))) c.from_be_bytes.ensures)

@@ -1,8 +1,7 @@
 -- The bookings before j are by the rules and were walked to the offset; the filter has the names of the numbers up to j.
-use Prim.Native.Nat.{ℕ, ◌+◌, ◌<◌, ◌^◌}
-use mathlib.Core.Path.{◌≡◌, refl, sym, ap, ap₂, ◌∙◌}
+use Prim.Native.Nat.{◌+◌, ◌<◌, ◌^◌}
+use mathlib.Core.Path.{◌≡◌, sym, ap, ap₂, ◌∙◌}
 use mathlib.Core.Bool.{not}
-use mathlib.Core.List.{List}
 use native.Mathlib.Omega.{arith}
 use lib.ListN.{drop}
 use borrow.Author.Rules.{rules}
@@ -11,34 +10,30 @@ use Rattle.loops.proofs.Bools.{and_both}
 use Rattle.loops.proofs.Search.{search_start, search_miss, search_over}
 use Rattle.name_filter.specs.Names.{with_noted}
 use Rattle.name_filter.proofs.Names.{names_noted_more}
-use Rattle.day_judge.specs.Parts.{name_read, is_named, row_good, BookingsGood}
-use Rattle.day_judge.specs.Judged.{Walked, booking_from, RowEnds, BookingsJudged}
+use Rattle.day_judge.specs.Parts.{name_read, is_named, row_good}
+use Rattle.day_judge.specs.Judged.{Walked, booking_from, RowEnds}
 use Rattle.day_judge.proofs.Rows.{name_is}
 use Rattle.day_judge.proofs.Bookings.{walked_none, next_rules, walked_more, name_refused, row_refused}
 use Rattle.day_judge.proofs.bookings_end.Goals as goal
 
-refused : (sections : List ℕ) (n : ℕ) → (BookingsGood (drop 2 sections) n → ⊥) → BookingsJudged sections n 0
-refused sections n h = record { good = λ d. absurd (d refl); bad = λ e. h }
-
 pub loop-j-init : goal.loop-j-init
 loop-j-init c = (omega arith, walked_none c.args.sections.now c.requires.0, c.requires.2, search_start _ _)
 
-pub returns-then-end-eq0 : goal.returns-then-end-eq0
-returns-then-end-eq0 c =
-    refused c.args.sections.now c.args.count (row_refused c.args.sections.now c.args.count c.loop-j.j c.loop-j.at (omega arith) c.loop-j.invariant.1 _ c.if-end-eq0.true c.row_end-end.ensures)
+pub returns-in_err-end : goal.returns-in_err-end
+returns-in_err-end c =
+    rw c.from_residual.ensures (row_refused c.args.sections.now c.args.count c.loop-j.j c.loop-j.at (omega arith) c.loop-j.invariant.1 c.in_err-end.ensures)
 
 pub returns-then-not-enter_name : goal.returns-then-not-enter_name
 returns-then-not-enter_name c =
     let small : c.name_at-name.result < 2 ^ 64 = search rules in
-    refused c.args.sections.now c.args.count (name_refused c.args.sections.now c.args.count c.loop-j.j c.loop-j.at (omega arith) c.loop-j.invariant.1 c.name_at-name.result small c.name_at-name.ensures
-    (not-false _ (sym c.enter_name.ensures.0 ∙ c.if-not-enter_name.true)))
+    name_refused c.args.sections.now c.args.count c.loop-j.j c.loop-j.at (omega arith) c.loop-j.invariant.1 c.name_at-name.result small c.name_at-name.ensures
+    (not-false _ (sym c.enter_name.ensures.0 ∙ c.if-not-enter_name.true))
 
 pub loop-j-preserved : goal.loop-j-preserved
 loop-j-preserved c =
-    let ends : RowEnds c.args.sections.now c.loop-j.at c.loop-j.j c.row_end-end.result = c.row_end-end.ensures.good c.if-end-eq0.false in
     let small : c.name_at-name.result < 2 ^ 64 = search rules in
     let T = c.loop-j in
-    let row = ends in
+    let row : RowEnds c.args.sections.now c.loop-j.at c.loop-j.j c.in_ok-end.end = c.in_ok-end.ensures in
     let names = name_read (drop 2 c.args.sections.now) in
     let free = sym c.enter_name.ensures.0 ∙ c.if-not-enter_name.false in (
       omega arith,
@@ -56,9 +51,6 @@ returns c =
     let end : T.j ≡ S.count = omega arith in
     let walked : Walked S.sections.now S.count T.at = rw end at T.invariant.1 in
     record {
-      good = λ d. record {
-        good = record { laid = walked.laid; rules = eq-eqb _ _ (search_over _ _ _ T.invariant.3 (omega arith) ∙ end) };
-        walked = walked;
-      };
-      bad = λ e. absurd (omega (arith, walked.past));
+      good = record { laid = walked.laid; rules = eq-eqb _ _ (search_over _ _ _ T.invariant.3 (omega arith) ∙ end) };
+      walked = walked;
     }

@@ -20,50 +20,50 @@ returns-then-name-eq0 c =
     let S = c.args in
     sym (ap not (→any (has S.sections.now S.name) (S.j + 1) 0 (omega arith) (eq-eqb _ _ (sym c.if-name-eq0.true))))
 
-pub loop-i-init : goal.loop-i-init
-loop-i-init c =
+pub loop-init : goal.loop-init
+loop-init c =
     let S = c.args in
     (omega arith, behind_none (drop 2 S.sections.now), search_miss (has S.sections.now S.name) (S.j + 1) 0 (search_start _ _) (omega arith) (ne_eqb _ _ (λ e. c.if-name-eq0.false (sym e))))
 
 pub name_at-requires : goal.name_at-requires
 name_at-requires c =
-    let fits : c.loop-i.at + 12 + 2 * length (booking_from c.args.sections.now c.loop-i.at).parents ≤ length c.args.sections.now = omega (arith, row_fits c.args.sections.now c.loop-i.at c.loop-i.i c.loop-i.invariant.1 c.args.j (omega arith) c.requires.0, length_booking_bytes (booking_from c.args.sections.now c.loop-i.at)) in
+    let fits : c.loop.at + 12 + 2 * length (booking_from c.args.sections.now c.loop.at).parents ≤ length c.args.sections.now = omega (arith, row_fits c.args.sections.now c.loop.at c.loop.counter c.loop.invariant.1 c.args.j (omega arith) c.requires.0, length_booking_bytes (booking_from c.args.sections.now c.loop.at)) in
     omega (arith, fits)
 
 pub returns-then-name_at-name : goal.returns-then-name_at-name
 returns-then-name_at-name c =
-    let read : name_read (drop 2 c.args.sections.now) (c.loop-i.i + 1) ≡ c.name_at.result = name_is c.args.sections.now c.loop-i.at c.loop-i.i c.loop-i.invariant.1 c.name_at.result (search rules) c.name_at.ensures in
+    let read : name_read (drop 2 c.args.sections.now) (c.loop.counter + 1) ≡ c.name_at.result = name_is c.args.sections.now c.loop.at c.loop.counter c.loop.invariant.1 c.name_at.result (search rules) c.name_at.ensures in
     let A = c.args in
-    sym (ap not (→any (has A.sections.now A.name) (A.j + 1) (c.loop-i.i + 1) (omega arith) (eq-eqb _ _ (read ∙ c.if-name_at-name.true))))
+    sym (ap not (→any (has A.sections.now A.name) (A.j + 1) (c.loop.counter + 1) (omega arith) (eq-eqb _ _ (read ∙ c.if-name_at-name.true))))
 
 pub overflow_add-at : goal.overflow_add-at
 overflow_add-at c =
-    let fits : c.loop-i.at + 12 + 2 * length (booking_from c.args.sections.now c.loop-i.at).parents ≤ length c.args.sections.now = omega (arith, row_fits c.args.sections.now c.loop-i.at c.loop-i.i c.loop-i.invariant.1 c.args.j (omega arith) c.requires.0, length_booking_bytes (booking_from c.args.sections.now c.loop-i.at)) in
+    let fits : c.loop.at + 12 + 2 * length (booking_from c.args.sections.now c.loop.at).parents ≤ length c.args.sections.now = omega (arith, row_fits c.args.sections.now c.loop.at c.loop.counter c.loop.invariant.1 c.args.j (omega arith) c.requires.0, length_booking_bytes (booking_from c.args.sections.now c.loop.at)) in
     omega (arith, fits)
 
 pub number_at-count-requires : goal.number_at-count-requires
 number_at-count-requires c =
-    let fits : c.loop-i.at + 12 + 2 * length (booking_from c.args.sections.now c.loop-i.at).parents ≤ length c.args.sections.now = omega (arith, row_fits c.args.sections.now c.loop-i.at c.loop-i.i c.loop-i.invariant.1 c.args.j (omega arith) c.requires.0, length_booking_bytes (booking_from c.args.sections.now c.loop-i.at)) in
+    let fits : c.loop.at + 12 + 2 * length (booking_from c.args.sections.now c.loop.at).parents ≤ length c.args.sections.now = omega (arith, row_fits c.args.sections.now c.loop.at c.loop.counter c.loop.invariant.1 c.args.j (omega arith) c.requires.0, length_booking_bytes (booking_from c.args.sections.now c.loop.at)) in
     omega (arith, fits)
 
-pub overflow_add-at-in-loop-i : goal.overflow_add-at-in-loop-i
-overflow_add-at-in-loop-i c =
-    let fits : c.loop-i.at + 12 + 2 * length (booking_from c.args.sections.now c.loop-i.at).parents ≤ length c.args.sections.now = omega (arith, row_fits c.args.sections.now c.loop-i.at c.loop-i.i c.loop-i.invariant.1 c.args.j (omega arith) c.requires.0, length_booking_bytes (booking_from c.args.sections.now c.loop-i.at)) in
-    let end : c.loop-i.at + 12 + 2 * c.number_at-count.result ≤ length c.args.sections.now = omega (arith, fits, length_booking_bytes (booking_from c.args.sections.now c.loop-i.at), booking_end c.args.sections.now c.loop-i.at c.number_at-count.result (search rules) c.number_at-count.ensures) in
+pub overflow_add-at-in-loop : goal.overflow_add-at-in-loop
+overflow_add-at-in-loop c =
+    let fits : c.loop.at + 12 + 2 * length (booking_from c.args.sections.now c.loop.at).parents ≤ length c.args.sections.now = omega (arith, row_fits c.args.sections.now c.loop.at c.loop.counter c.loop.invariant.1 c.args.j (omega arith) c.requires.0, length_booking_bytes (booking_from c.args.sections.now c.loop.at)) in
+    let end : c.loop.at + 12 + 2 * c.number_at-count.result ≤ length c.args.sections.now = omega (arith, fits, length_booking_bytes (booking_from c.args.sections.now c.loop.at), booking_end c.args.sections.now c.loop.at c.number_at-count.result (search rules) c.number_at-count.ensures) in
     omega (arith, end)
 
-pub overflow_add-at-in-loop-i-2 : goal.overflow_add-at-in-loop-i-2
-overflow_add-at-in-loop-i-2 c =
-    let fits : c.loop-i.at + 12 + 2 * length (booking_from c.args.sections.now c.loop-i.at).parents ≤ length c.args.sections.now = omega (arith, row_fits c.args.sections.now c.loop-i.at c.loop-i.i c.loop-i.invariant.1 c.args.j (omega arith) c.requires.0, length_booking_bytes (booking_from c.args.sections.now c.loop-i.at)) in
-    let end : c.loop-i.at + 12 + 2 * c.number_at-count.result ≤ length c.args.sections.now = omega (arith, fits, length_booking_bytes (booking_from c.args.sections.now c.loop-i.at), booking_end c.args.sections.now c.loop-i.at c.number_at-count.result (search rules) c.number_at-count.ensures) in
+pub overflow_add-at-in-loop-2 : goal.overflow_add-at-in-loop-2
+overflow_add-at-in-loop-2 c =
+    let fits : c.loop.at + 12 + 2 * length (booking_from c.args.sections.now c.loop.at).parents ≤ length c.args.sections.now = omega (arith, row_fits c.args.sections.now c.loop.at c.loop.counter c.loop.invariant.1 c.args.j (omega arith) c.requires.0, length_booking_bytes (booking_from c.args.sections.now c.loop.at)) in
+    let end : c.loop.at + 12 + 2 * c.number_at-count.result ≤ length c.args.sections.now = omega (arith, fits, length_booking_bytes (booking_from c.args.sections.now c.loop.at), booking_end c.args.sections.now c.loop.at c.number_at-count.result (search rules) c.number_at-count.ensures) in
     omega (arith, end)
 
-pub loop-i-preserved : goal.loop-i-preserved
-loop-i-preserved c =
-    let read : name_read (drop 2 c.args.sections.now) (c.loop-i.i + 1) ≡ c.name_at.result = name_is c.args.sections.now c.loop-i.at c.loop-i.i c.loop-i.invariant.1 c.name_at.result (search rules) c.name_at.ensures in
-    let L = c.loop-i in (
+pub loop-preserved : goal.loop-preserved
+loop-preserved c =
+    let read : name_read (drop 2 c.args.sections.now) (c.loop.counter + 1) ≡ c.name_at.result = name_is c.args.sections.now c.loop.at c.loop.counter c.loop.invariant.1 c.name_at.result (search rules) c.name_at.ensures in
+    let L = c.loop in (
       omega arith,
-      behind_more c.args.sections.now c.loop-i.at c.number_at-count.result (search rules) c.number_at-count.ensures L.i L.invariant.1,
+      behind_more c.args.sections.now c.loop.at c.number_at-count.result (search rules) c.number_at-count.ensures L.counter L.invariant.1,
       search_miss _ _ _ L.invariant.2 (omega arith) (ne_eqb _ _ (λ e. c.if-name_at-name.false (sym read ∙ e))),
     )
 
@@ -71,4 +71,4 @@ pub returns : goal.returns
 returns c =
     let A = c.args in
     let p : ℕ → Bool = has A.sections.now A.name in
-    sym (ap not (le-ltb (first p (A.j + 1)) (A.j + 1) (omega (arith, search_over p (A.j + 1) (c.loop-i.i + 1) c.loop-i.invariant.2 (omega arith)))))
+    sym (ap not (le-ltb (first p (A.j + 1)) (A.j + 1) (omega (arith, search_over p (A.j + 1) (c.loop.counter + 1) c.loop.invariant.2 (omega arith)))))

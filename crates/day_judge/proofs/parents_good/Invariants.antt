@@ -15,6 +15,6 @@ lower parents j a = ltb (get_or parents a 0) (j + 1)
 abbrev pub test : List ℕ → ℕ → ℕ → Bool
 test parents j a = lower parents j a && not (any (λ b. eqb (get_or parents b 0) (get_or parents a 0)) a)
 
-abbrev pub invariant-loop-a : goal.invariant-loop-a
-invariant-loop-a l =
-    (l.a ≤ l.count) × (l.named ≡ set_below (λ b. get_or l.parents b 0) l.a) × Searched (λ k. not (test l.parents l.j k)) l.count l.a
+abbrev pub invariant-loop-parent : goal.invariant-loop-parent
+invariant-loop-parent l =
+    (l.parent-index ≤ l.count) × (l.named ≡ set_below (λ b. get_or l.parents b 0) l.parent-index) × Searched (λ k. not (test l.parents l.j k)) l.count l.parent-index

@@ -4,7 +4,7 @@ use mathlib.Core.Bool.{true}
 use native.Mathlib.Omega.{arith}
 use borrow.Author.Rules.{rules}
 use Rattle.day_judge.specs.Parts.{fields_good}
-use Rattle.day_judge.proofs.Rows.{row_short, row_fields, row_room, row_parents, row_ends}
+use Rattle.day_judge.proofs.Rows.{row_short, row_fields, row_room, row_asked}
 use Rattle.day_judge.proofs.row_end.Goals as goal
 
 pub returns-then-sections-at-lt-PARENTS : goal.returns-then-sections-at-lt-PARENTS
@@ -18,14 +18,9 @@ pub returns-then-sections-end : goal.returns-then-sections-end
 returns-then-sections-end c =
     row_room c.args.sections.now c.args.at c.args.j c.number_at-slot.result c.number_at-count.result (search rules) (search rules) c.number_at-slot.ensures c.number_at-count.ensures (omega arith)
 
-pub returns-then-not-parents_good : goal.returns-then-not-parents_good
-returns-then-not-parents_good c =
-    let fields : fields_good c.args.j c.number_at-slot.result c.number_at-count.result ≡ true = sym c.fields_good.ensures ∙ c.if-not-fields_good.false in
-    row_parents c.args.sections.now c.args.at c.args.j c.number_at-slot.result c.number_at-count.result (search rules) (search rules) c.number_at-slot.ensures c.number_at-count.ensures
-    c.parents_at-parents.result c.parents_at-parents.ensures.0 fields (sym c.parents_good.ensures ∙ c.if-not-parents_good.true)
-
 pub returns : goal.returns
 returns c =
     let fields : fields_good c.args.j c.number_at-slot.result c.number_at-count.result ≡ true = sym c.fields_good.ensures ∙ c.if-not-fields_good.false in
-    row_ends c.args.sections.now c.args.at c.args.j c.number_at-slot.result c.number_at-count.result (search rules) (search rules) c.number_at-slot.ensures c.number_at-count.ensures
-    c.parents_at-parents.result c.parents_at-parents.ensures.0 fields c.parents_at-parents.ensures.1 (sym c.parents_good.ensures ∙ c.if-not-parents_good.false) (omega arith)
+    rw c.then_some.ensures
+    (row_asked c.args.sections.now c.args.at c.args.j c.number_at-slot.result c.number_at-count.result (search rules) (search rules) c.number_at-slot.ensures c.number_at-count.ensures
+    c.parents_at-parents.result c.parents_at-parents.ensures.0 fields c.parents_at-parents.ensures.1 (omega arith) c.parents_good.result c.parents_good.ensures)

@@ -4,5 +4,5 @@ use lib.ListN.{length, drop}
 use Rattle.day_file.specs.Decode.{read_many, read_booking}
 use Rattle.day_marks.proofs.bookings_end.Given as goal
 
-abbrev pub invariant-loop-j : goal.invariant-loop-j
-invariant-loop-j l = (l.j ≤ l.count) × (l.at ≤ length l.file) × (drop l.at l.file ≡ (read_many read_booking l.j (drop l.start l.file)).rest)
+abbrev pub invariant-loop : goal.invariant-loop
+invariant-loop l = (l.counter ≤ l.count) × (l.at ≤ length l.file) × (drop l.at l.file ≡ (read_many read_booking l.counter (drop l.start l.file)).rest)

@@ -1,7 +1,9 @@
--- Two stores: the high byte, and after it the low one.
-use borrow.Author.Rules.{rules}
-use Rattle.day_put.proofs.Words.{put_word}
+-- Its two bytes, over two of the buffer's.
+use native.Mathlib.Omega.{arith}
+use mathlib.Core.Path.{◌∙◌}
+use Rattle.day_put.proofs.Words.{put_bytes}
 use Rattle.day_put.proofs.put_number.Goals as goal
 
 pub returns : goal.returns
-returns c = put_word _ _ _ (search rules)
+returns c =
+    put_bytes _ c.args.at 2 c.args.v _ c.requires (omega arith) (c.copy_from_slice.ensures.after ∙ c.to_be_bytes.ensures)

@@ -7,7 +7,7 @@ use borrow.Author.Rules.{rules}
 use Rattle.day_file.specs.Decode.{marks_in}
 use Rattle.day_remark.proofs.MarksRead.{count_is, mark_is, length_section, Met, met_none, met_all, met_unmarked, met_more, met_too_many, met_other}
 use Rattle.day_remark.proofs.has_same.Goals as goal
-use Rattle.day_remark.proofs.has_same.Goals.{then-field-eq1+else-next-count+else-number_at-i, else-field-eq1}
+use Rattle.day_remark.proofs.has_same.Goals.{then-field-eq1+else-next-count+else-mark-i, else-field-eq1}
 
 pub number_at-count-requires : goal.number_at-count-requires
 number_at-count-requires c = omega (arith, length_section c.args.section.now c.requires.2)
@@ -23,16 +23,16 @@ loop-i-init c = (
 pub returns-then-next-count : goal.returns-then-next-count
 returns-then-next-count c = met_too_many c.args.w.now (marks_in c.args.section.now) c.loop-i.invariant.3 c.field.ensures c.if-field-eq1.true (omega arith) (c.if-next-count.true ∙ c.loop-i.invariant.1)
 
-pub number_at-requires : goal.number_at-requires
-number_at-requires c =
+pub number_at-mark-requires : goal.number_at-mark-requires
+number_at-mark-requires c =
     let left : c.loop-i.next < length (marks_in c.args.section.now) = omega (arith, c.if-next-count.false, c.loop-i.invariant.1, c.loop-i.invariant.3.few) in
     omega (arith, left, length_section c.args.section.now c.requires.2)
 
-pub returns-then-number_at-i : goal.returns-then-number_at-i
-returns-then-number_at-i c =
+pub returns-then-mark-i : goal.returns-then-mark-i
+returns-then-mark-i c =
     let left : c.loop-i.next < length (marks_in c.args.section.now) = omega (arith, c.if-next-count.false, c.loop-i.invariant.1, c.loop-i.invariant.3.few) in
-    let read = mark_is c.args.section.now c.loop-i.next c.number_at.result left (search rules) c.number_at.ensures in
-    met_other c.args.w.now (marks_in c.args.section.now) c.loop-i.invariant.3 c.field.ensures c.if-field-eq1.true (omega arith) (λ same. c.if-number_at-i.true (read ∙ same))
+    let read = mark_is c.args.section.now c.loop-i.next c.number_at-mark.result left (search rules) c.number_at-mark.ensures in
+    met_other c.args.w.now (marks_in c.args.section.now) c.loop-i.invariant.3 c.field.ensures c.if-field-eq1.true (omega arith) (λ same. c.if-mark-i.true (read ∙ same))
 
 pub loop-i-preserved : goal.loop-i-preserved
 loop-i-preserved c =
@@ -43,9 +43,9 @@ loop-i-preserved c =
       c.loop-i.invariant.1,
       omega arith,
       elim c.if-field-eq1.branch [
-        | then-field-eq1+else-next-count+else-number_at-i v ↦
-            let read = mark_is section c.loop-i.next v.number_at.result (omega (arith, v.if-next-count.false, c.loop-i.invariant.1, met.few)) (search rules) v.number_at.ensures in
-            subst (λ k. Met w (marks_in section) k (c.loop-i.i + 1)) (sym v.next-is) (met_more w (marks_in section) met c.field.ensures v.if-field-eq1.true (omega (arith, v.if-next-count.false, c.loop-i.invariant.1, met.few)) (sym read ∙ v.if-number_at-i.false))
+        | then-field-eq1+else-next-count+else-mark-i v ↦
+            let read = mark_is section c.loop-i.next v.number_at-mark.result (omega (arith, v.if-next-count.false, c.loop-i.invariant.1, met.few)) (search rules) v.number_at-mark.ensures in
+            subst (λ k. Met w (marks_in section) k (c.loop-i.i + 1)) (sym v.next-is) (met_more w (marks_in section) met c.field.ensures v.if-field-eq1.true (omega (arith, v.if-next-count.false, c.loop-i.invariant.1, met.few)) (sym read ∙ v.if-mark-i.false))
         | else-field-eq1 v ↦ subst (λ k. Met w (marks_in section) k (c.loop-i.i + 1)) (sym v.next-is) (met_unmarked w (marks_in section) met c.field.ensures v.if-field-eq1.false)
       ],
     )

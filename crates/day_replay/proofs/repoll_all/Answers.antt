@@ -1,5 +1,4 @@
--- Before turn q the words are those of stage q, and the rest of the section stands from the offset on.
-use mathlib.Core.Path.{refl}
+-- Before each turn the words are those of its stage, and the rest of the section stands from the offset on.
 use native.Mathlib.Omega.{arith}
 use borrow.Author.Rules.{rules}
 use Rattle.day_replay.proofs.GoodFile.{poll_room, poll_first, poll_able, poll_more, poll_over}
@@ -11,22 +10,15 @@ number_at-requires c = poll_room c.args.file.now c.requires.1 c.args.at c.requir
 pub overflow_add-next : goal.overflow_add-next
 overflow_add-next c = omega (arith, poll_room c.args.file.now c.requires.1 c.args.at c.requires.2)
 
-pub loop-q-init : goal.loop-q-init
-loop-q-init c =
-    let first = poll_first c.args.file.now c.requires.1 c.args.at c.requires.2 c.number_at.result (search rules) c.wide-count.ensures.0 c.number_at.ensures c.requires.0 in
-    (refl, first.1)
+pub loop-init : goal.loop-init
+loop-init c =
+    poll_first c.args.file.now c.requires.1 c.args.at c.requires.2 c.number_at.result (search rules) c.wide-polls.ensures.0 c.number_at.ensures c.requires.0
 
 pub repoll-next-requires : goal.repoll-next-requires
-repoll-next-requires c =
-    let first = poll_first c.args.file.now c.requires.1 c.args.at c.requires.2 c.number_at.result (search rules) c.wide-count.ensures.0 c.number_at.ensures c.requires.0 in
-    poll_able c.args.file.now c.requires.1 c.loop-q.invariant.1 (omega (arith, first.0))
+repoll-next-requires c = poll_able c.args.file.now c.requires.1 c.loop.invariant.1 (omega arith)
 
-pub loop-q-preserved : goal.loop-q-preserved
-loop-q-preserved c =
-    let first = poll_first c.args.file.now c.requires.1 c.args.at c.requires.2 c.number_at.result (search rules) c.wide-count.ensures.0 c.number_at.ensures c.requires.0 in
-    (omega (arith, c.loop-q.invariant.0), poll_more c.args.file.now c.requires.1 c.loop-q.invariant.1 (omega (arith, first.0)) c.repoll-next.ensures)
+pub loop-preserved : goal.loop-preserved
+loop-preserved c = (c.loop.invariant.0, poll_more c.args.file.now c.requires.1 c.loop.invariant.1 (omega arith) c.repoll-next.ensures)
 
 pub returns : goal.returns
-returns c =
-    let first = poll_first c.args.file.now c.requires.1 c.args.at c.requires.2 c.number_at.result (search rules) c.wide-count.ensures.0 c.number_at.ensures c.requires.0 in
-    poll_over c.args.file.now c.requires.1 c.loop-q.invariant.1 (omega (arith, first.0))
+returns c = poll_over c.args.file.now c.requires.1 c.loop.invariant.1 (omega arith)

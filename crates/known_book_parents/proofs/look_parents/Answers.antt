@@ -25,12 +25,12 @@ returns-in_default c =
 
 pub overflow_cast-numbers : goal.overflow_cast-numbers
 overflow_cast-numbers c =
-    omega (arith, c.requires.0.sound.bookings_most, found_below_lem c.args.w.now (get_or c.args.parents.now c.loop-a.a 0) c.in-At.p (sym c.find.ensures ∙ c.in-At.is))
+    omega (arith, c.requires.0.sound.bookings_most, found_below_lem c.args.w.now (get_or c.args.parents.now c.loop-a.a 0) c.in-Some.p (sym c.find.ensures ∙ c.in-Some.is))
 
 pub loop-a-preserved : goal.loop-a-preserved
 loop-a-preserved c =
     let L = c.loop-a in
-    let e = sym c.find.ensures ∙ c.in-At.is in
+    let e = sym c.find.ensures ∙ c.in-Some.is in
     (omega arith, search_miss _ _ _ L.invariant.1 (omega arith) (ap is_absent e), rw (up_to_more, ← L.invariant.2, e))
 
 pub returns : goal.returns

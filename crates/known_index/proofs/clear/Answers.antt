@@ -1,9 +1,8 @@
--- The cells below c are empty.
-use native.Mathlib.Omega.{arith}
-use Rattle.known_index.proofs.Cleared.{cleared_all}
+-- A copy of a number is the number.
+use Rattle.std.proofs.Common.{ℕ, ◌∙◌, ap}
+use Rattle.std.specs.Prelude.{replicate}
+use Rattle.name_index.specs.Index.{empty}
 use Rattle.known_index.proofs.clear.Goals as goal
 
 pub returns : goal.returns
-returns c =
-    let turn = c.loop-c in
-    cleared_all turn.index turn.invariant.1 (λ k l. turn.invariant.2 k (omega arith))
+returns c = c.fill.ensures.after (λ y e. e) ∙ ap (λ (n : ℕ). replicate n empty) c.requires

@@ -1,4 +1,5 @@
 -- Where the file has no room nothing is written; else the day is.
+use Rattle.std.specs.Prelude.{Ok}
 use mathlib.Core.Path.{◌≡◌, ap, ap₂, ◌∙◌}
 use Prim.Native.Nat.{◌≤◌}
 use native.Mathlib.Omega.{arith}
@@ -7,7 +8,6 @@ use lib.ListN.{length}
 use mir.Syntax.{w64}
 use mir.Val.{to_z}
 use mir.ValLaws.{to_z_pos}
-use Rattle.terms.specs.declared.answer.Answer.TheVariants.{Taken}
 use Rattle.terms.specs.declared.form.Form.TheVariants.{First}
 use Rattle.terms.specs.Answers.{handover}
 use Rattle.rules.specs.Layout.{setting_in}
@@ -25,4 +25,4 @@ returns c =
     let counted = c.file_length-length.ensures in
     let value : to_z w64 c.file_length-length.result ≡ pos (length (day_file c.args.w.now)) =
     to_z_pos w64 _ (omega (arith, counted, day_file_most c.args.w.now c.requires, edition_length_most (setting_in c.args.w.now).edition)) ∙ ap pos counted in
-    ap₂ (λ v l. handover (Taken v) c.args.w.now l) value c.put_day.ensures ∙ taken c.args.w.now First c.args.out.now c.requires room
+    ap₂ (λ v l. handover (Ok v) c.args.w.now l) value c.put_day.ensures ∙ taken c.args.w.now First c.args.out.now c.requires room

@@ -1,4 +1,5 @@
 -- Where the file has no room nothing is written; else the day, and the marks in what remains behind it.
+use Rattle.std.specs.Prelude.{Ok}
 use mathlib.Core.Path.{◌≡◌, ap, ap₂, ◌∙◌}
 use Prim.Native.Nat.{◌+◌, ◌*◌, ◌≤◌}
 use native.Mathlib.Omega.{arith}
@@ -7,7 +8,6 @@ use lib.ListN.{length}
 use mir.Syntax.{w64}
 use mir.Val.{to_z}
 use mir.ValLaws.{to_z_pos}
-use Rattle.terms.specs.declared.answer.Answer.TheVariants.{Taken}
 use Rattle.terms.specs.declared.form.Form.TheVariants.{Second}
 use Rattle.terms.specs.Answers.{handover}
 use Rattle.day_file.specs.Bytes.{file_of}
@@ -40,6 +40,6 @@ returns c =
     let room : length (file_of Second c.args.w.now) ≤ length c.args.out.now = omega (arith, whole, c.if-out-length.false) in
     let value : to_z w64 (c.file_length-day.result + (2 + 2 * c.mark_count.result)) ≡ pos (length (file_of Second c.args.w.now)) =
     to_z_pos w64 _ (omega (arith, whole)) ∙ ap pos whole.0 in
-    ap₂ (λ v l. handover (Taken v) c.args.w.now l) value
+    ap₂ (λ v l. handover (Ok v) c.args.w.now l) value
     (second_laid c.args.w.now c.args.out.now room c.put_day.ensures c.file_length-day.ensures c.put_marks.ensures)
     ∙ taken c.args.w.now Second c.args.out.now c.requires room

@@ -1,28 +1,24 @@
--- The bytes before i are digits within the limit; the first that is none, or that takes the value past the limit, settles the word.
-use mathlib.Core.Path.{refl, sym, ◌∙◌}
-use native.Mathlib.Omega.{arith}
-use borrow.Author.Rules.{rules}
+-- The bytes so far are digits within the limit; the first that is none, or that takes the value past the limit, settles the word.
+use Rattle.std.proofs.Common.{rules, sym, ◌∙◌, arith}
 use Rattle.line_number.proofs.Digits.{read_start, read_more, read_refused, read_over, number_none, number_long}
 use Rattle.line_number.proofs.read_number.Goals as goal
+use Rattle.line_number.proofs.read_number.Goals.{then-is_empty-via-then-is_empty, then-is_empty-via-else-is_empty+then-word-gt-DIGITS_MOST}
 
-pub returns-then-word-lt1 : goal.returns-then-word-lt1
-returns-then-word-lt1 c = sym (number_none _ _ c.if-word-lt1.true)
+pub returns-then-is_empty : goal.returns-then-is_empty
+returns-then-is_empty c =
+    elim c.then-is_empty.branch [
+      | then-is_empty-via-then-is_empty w ↦ sym (number_none _ _ (search rules))
+      | then-is_empty-via-else-is_empty+then-word-gt-DIGITS_MOST w ↦ sym (number_long _ _ w.if-word-gt-DIGITS_MOST.true)
+    ]
 
-pub returns-then-word-gt-DIGITS_MOST : goal.returns-then-word-gt-DIGITS_MOST
-returns-then-word-gt-DIGITS_MOST c = sym (number_long _ _ c.if-word-gt-DIGITS_MOST.true)
+pub loop-byte-init : goal.loop-byte-init
+loop-byte-init c = read_start _ _
 
-pub loop-i-init : goal.loop-i-init
-loop-i-init c = (search rules, refl, read_start _ _)
+pub returns-in_err-value : goal.returns-in_err-value
+returns-in_err-value c = c.from_residual.ensures ∙ sym (read_refused c.loop-byte.invariant (omega arith) (sym c.in_err-value.ensures))
 
-pub returns-in_default : goal.returns-in_default
-returns-in_default c =
-    let L = c.loop-i in
-    sym (read_refused L.invariant.2 (omega arith) (sym c.more.ensures ∙ c.in_default.is))
-
-pub loop-i-preserved : goal.loop-i-preserved
-loop-i-preserved c =
-    let L = c.loop-i in
-    (search rules, search rules, read_more L.invariant.2 _ (omega arith) (sym c.more.ensures ∙ c.in-Value.is))
+pub loop-byte-preserved : goal.loop-byte-preserved
+loop-byte-preserved c = read_more c.loop-byte.invariant _ (omega arith) (sym c.in_ok-value.ensures)
 
 pub returns : goal.returns
-returns c = sym (read_over c.loop-i.invariant.2 (omega arith) (omega arith) (omega arith))
+returns c = sym (read_over c.loop-byte.invariant (omega arith) (search rules) (omega arith))

@@ -1,22 +1,27 @@
--- A word that begins with a minus sign is the number after it, negated; any other is a number by itself.
-use mathlib.Core.Path.{sym, ◌∙◌}
-use borrow.Author.Tests.{ne_eqb}
-use Rattle.line_number.specs.declared.Number.TheVariants.{Value, Bad}
-use Rattle.line_number.specs.Numbers.{vote_read}
-use Rattle.line_number.proofs.Digits.{vote_none, vote_minus}
+-- A word that begins with a minus sign is the number after it, negated; any other is a number by itself. Either fits a byte.
+use Rattle.std.proofs.Common.{◌≡◌, ◌-◌, ◌%◌, Some, None, ap, sym, ◌∙◌, arith}
+use Rattle.line_number.proofs.Digits.{number_le, vote_minus, vote_plain}
+use Rattle.line_number.specs.Numbers.{vote_most, minus_most}
 use Rattle.line_number.proofs.read_vote.Goals as goal
 
-pub returns-then-word-lt1 : goal.returns-then-word-lt1
-returns-then-word-lt1 c = sym (vote_none _ c.if-word-lt1.true)
+pub returns-in_err-size : goal.returns-in_err-size
+returns-in_err-size c = c.from_residual.ensures ∙ c.in_err-size.ensures ∙ vote_plain _ c.in_default.ensures.cases
+
+pub overflow_cast-result : goal.overflow_cast-result
+overflow_cast-result c = omega (arith, number_le vote_most _ _ (sym c.in_ok-size.ensures))
 
 pub returns-in_default : goal.returns-in_default
-returns-in_default c =
-    vote_minus c.args.word.now Bad c.if-word-eq45.true (sym c.in_default.is ∙ c.read_number.ensures)
+returns-in_default c = c.in_ok-size.ensures ∙ vote_plain _ c.in_default.ensures.cases
 
-pub returns-then-word-eq45 : goal.returns-then-word-eq45
-returns-then-word-eq45 c =
-    vote_minus c.args.word.now (Value _) c.if-word-eq45.true (sym c.in-Value.is ∙ c.read_number.ensures)
+pub returns-in_err-size-2 : goal.returns-in_err-size-2
+returns-in_err-size-2 c =
+    c.from_residual-in_err-size-2.ensures ∙ vote_minus _ _ None c.in-Some.ensures.cases.0 c.in-Some.ensures.cases.1 c.in_err-size-2.ensures
+
+pub overflow_cast-size : goal.overflow_cast-size
+overflow_cast-size c = omega (arith, number_le minus_most _ _ (sym c.in_ok-size-2.ensures))
 
 pub returns : goal.returns
-unfolding vote_read
-returns c = rw (ne_eqb _ _ c.if-word-eq45.false) c.read_number-2.ensures
+returns c =
+    let size = c.in_ok-size-2.size in
+    let byte : c.wrapping_neg.result ≡ (256 - size % 256) % 256 = omega (arith, c.wrapping_neg.ensures, c.wrapping_neg.type_inv, number_le minus_most _ size (sym c.in_ok-size-2.ensures)) in
+    ap Some byte ∙ vote_minus c.args.word.now _ (Some size) c.in-Some.ensures.cases.0 c.in-Some.ensures.cases.1 c.in_ok-size-2.ensures

@@ -1,23 +1,17 @@
--- No byte before i is a space; the first that is one ends the word, or the line does.
-use mathlib.Core.Path.{◌≡◌, refl, sym, ◌∙◌}
-use lib.ListN.{length}
-use native.Mathlib.Omega.{arith}
-use borrow.Author.Rules.{rules}
-use borrow.Author.Tests.{eq-eqb, ne_eqb}
-use Rattle.loops.proofs.Search.{search_start, search_hit, search_miss, search_over}
+-- The first space is the first byte that is one.
+use Rattle.std.proofs.Common.{ℕ, ◌∙◌}
+use lib.Dec.{eqb}
+use Rattle.std.proofs.lemmas.List.Sums.{position_or_len_is}
+use Rattle.loops.proofs.Search.{first_le, first_before, first_hit}
+use Rattle.text_bytes.specs.Bytes.{space}
 use Rattle.line_words.specs.Words.{word_end}
 use Rattle.line_words.proofs.word_end.Goals as goal
-
-pub loop-i-init : goal.loop-i-init
-loop-i-init c = (search rules, refl, search_start _ _)
-
-pub returns-then-line-i-eq32 : goal.returns-then-line-i-eq32
-unfolding word_end
-returns-then-line-i-eq32 c = sym (search_hit _ _ _ c.loop-i.invariant.2 (omega arith) (eq-eqb _ _ c.if-line-i-eq32.true))
-
-pub loop-i-preserved : goal.loop-i-preserved
-loop-i-preserved c = (search rules, search rules, search_miss _ _ _ c.loop-i.invariant.2 (omega arith) (ne_eqb _ _ c.if-line-i-eq32.false))
+use lib.ListN.{length, get_or}
 
 pub returns : goal.returns
 unfolding word_end
-returns c = let e : c.loop-i.i ≡ length c.args.line.now = omega arith in sym e ∙ sym (search_over _ _ _ c.loop-i.invariant.2 (omega arith))
+returns c =
+    let line = c.args.line.now in
+    let is_space = λ (i : ℕ). eqb (get_or line i 0) space in
+    c.find_byte.ensures.0
+    ∙ position_or_len_is (λ b. eqb b space) line _ 0 (first_le is_space (length line)) (λ k h. first_before is_space (length line) k h) (first_hit is_space (length line))

@@ -1,21 +1,21 @@
--- The hash so far is that of the bytes above byte j.
-use mathlib.Core.Path.{◌≡◌, sym, ap₂, ◌∙◌}
-use native.Mathlib.Omega.{arith}
+-- The fold over the name's bytes is the definition's eight turns.
+use Prim.Native.Nat.{ℕ}
+use native.Mathlib.Nat.{div-one}
 use borrow.Author.Rules.{rules}
-use Rattle.loops.proofs.Turns.{up_to_zero, up_to_more}
-use Rattle.name_index.specs.Hash.{hash_start, hashed, name_width, hash_of}
-use Rattle.name_hash.proofs.hash.Invariants.{step}
+use mathlib.Core.Path.{◌≡◌, ◌∙◌}
+use Rattle.std.specs.Int.{w64, to_be_bytes}
+use Rattle.std.specs.List.{fold}
+use Rattle.std.proofs.lemmas.Iterator.{YieldsList-from_slice}
+use Rattle.std.proofs.lemmas.Iterator.Consumers.{fold_from_yields_List}
+use Rattle.loops.specs.Turns.{up_to}
+use Rattle.name_index.specs.Hash.{hash_start, hashed, hash_of}
 use Rattle.name_hash.proofs.hash.Goals as goal
 
-pub loop-j-init : goal.loop-j-init
-loop-j-init c = (search rules, sym (up_to_zero _ _))
-
-pub loop-j-preserved : goal.loop-j-preserved
-loop-j-preserved c =
-    let turn = c.loop-j in
-    let name = c.args.name in
-    (omega arith, c.fnv_step-hash.ensures ∙ ap₂ hashed turn.invariant.1 c.name_byte.ensures ∙ sym (up_to_more (step name) turn.j hash_start))
+turns : (name : ℕ) → fold hashed hash_start (to_be_bytes w64 name) ≡ hash_of name
+unfolding hash_of up_to
+turns name = rw (div-one name)
 
 pub returns : goal.returns
-unfolding hash_of
-returns c = let over : c.loop-j.j ≡ name_width = omega arith in rw over at c.loop-j.invariant.1
+returns c =
+    fold_from_yields_List _ hashed _ _ c.fold.ensures.ran (YieldsList-from_slice (to_be_bytes w64 c.args.name) (c.iter.ensures.rest ∙ c.to_be_bytes.ensures)) (λ a x b q k. search rules)
+    ∙ turns c.args.name

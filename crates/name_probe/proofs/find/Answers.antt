@@ -1,9 +1,9 @@
 -- The cells before turn t neither are empty nor hold the number of a booking with the name. A turn that finds one of them ends it, and each other
 -- number is passed over.
+use Rattle.std.specs.Prelude.{Some}
 use mathlib.Core.Path.{sym, ap, ◌∙◌}
 use native.Mathlib.Omega.{arith}
 use borrow.Author.Rules.{rules}
-use Rattle.terms.specs.declared.answer.Found.TheVariants.{At}
 use Rattle.rules.specs.Layout.{name_of}
 use Rattle.name_index.specs.Index.{ends_lookup}
 use Rattle.name_index.proofs.Probe.{probe_start, find_empty, find_over, find_hit, find_unused, find_other}
@@ -37,7 +37,7 @@ returns-then-held c =
 
 pub returns-then-name : goal.returns-then-name
 returns-then-name c =
-    ap At c.wide-i.ensures.0
+    ap Some c.wide-i.ensures.0
     ∙ find_hit c.args.index.now c.home-h.result c.args.w.now c.args.name c.requires.2 c.loop-t.t c.loop-t.invariant.1 (omega arith) c.if-held.false
     c.home-h.ensures.0
     (omega (arith, c.if-n-i.false, c.wide-i.ensures, c.how_many-n.ensures))

@@ -5,8 +5,11 @@ use mathlib.Core.List.{List}
 use Prim.Native.Nat.{ℕ}
 use native.Mathlib.Omega.{arith}
 use lib.ListN.{length}
-use Rattle.rules.specs.Layout.{size, bookings}
-use Rattle.rules.specs.IsSound.{header_good}
+use Rattle.std.specs.Prelude.{None}
+use Rattle.loops.specs.Search.{found_below}
+use Rattle.loops.proofs.Search.{found_some→, found_none→}
+use Rattle.rules.specs.Layout.{size, slots, bookings}
+use Rattle.rules.specs.IsSound.{header_good, record_rows, bad_record, bad_slot}
 use Rattle.sound_rows.specs.HasBookings.{HasBookings}
 use Rattle.rule_laws.proofs.RowRules.{header_good→Rules, bad_record_most, bad_slot_most}
 use Rattle.rule_laws.proofs.Tested.{damage_header, damage_record, damage_slot, damage_none}
@@ -23,34 +26,33 @@ returns-then-not-header_good c = damage_header _ (sym c.header_good.ensures ∙ 
 pub chits-limit-requires : goal.chits-limit-requires
 chits-limit-requires c = has_bookings c.args.w.now _ c.requires (sym c.header_good.ensures ∙ c.if-not-header_good.false) (c.wide-n.ensures.0 ∙ c.header.ensures)
 
-pub bad_row-row-requires : goal.bad_row-row-requires
-bad_row-row-requires c =
+pub bad_row-requires : goal.bad_row-requires
+bad_row-requires c =
     let header = header_good→Rules _ (sym c.header_good.ensures ∙ c.if-not-header_good.false) in (
       has_bookings c.args.w.now _ c.requires (sym c.header_good.ensures ∙ c.if-not-header_good.false) (c.wide-n.ensures.0 ∙ c.header.ensures),
       omega (arith, c.wide-n.ensures.0, c.header.ensures, header.polls_most),
       c.chits-limit.ensures,
     )
 
-pub overflow_cast-result : goal.overflow_cast-result
-overflow_cast-result c =
-    omega (arith, c.bad_row-row.ensures, bad_record_most c.args.w.now)
+pub returns-in-Some : goal.returns-in-Some
+returns-in-Some c =
+    let row = found_some→ record_rows (bad_record c.args.w.now) c.in-Some.row (sym c.in-Some.is ∙ c.bad_row.ensures) in
+    damage_record _ (sym c.header_good.ensures ∙ c.if-not-header_good.false) c.in-Some.row row.0 (λ e. omega arith)
 
-pub returns-then-row-ne-ROWS : goal.returns-then-row-ne-ROWS
-returns-then-row-ne-ROWS c =
-    damage_record _ (sym c.header_good.ensures ∙ c.if-not-header_good.false) c.bad_row-row.result c.bad_row-row.ensures c.if-row-ne-ROWS.true
-
-pub bad_slot-slot-requires : goal.bad_slot-slot-requires
-bad_slot-slot-requires c =
+pub bad_slot-requires : goal.bad_slot-requires
+bad_slot-requires c =
     (has_bookings c.args.w.now _ c.requires (sym c.header_good.ensures ∙ c.if-not-header_good.false) (c.wide-n.ensures.0 ∙ c.header.ensures), c.chits-limit.ensures)
 
-pub overflow_cast-result-then-slot-ne-SLOTS : goal.overflow_cast-result-then-slot-ne-SLOTS
-overflow_cast-result-then-slot-ne-SLOTS c =
-    omega (arith, c.bad_slot-slot.ensures, bad_slot_most c.args.w.now)
+-- no row is damaged
+rows_good : (w : List ℕ) → None ≡ found_below record_rows (bad_record w) → record_rows ≡ bad_record w
+rows_good w e = omega (arith, bad_record_most w, found_none→ record_rows (bad_record w) e)
 
-pub returns-then-slot-ne-SLOTS : goal.returns-then-slot-ne-SLOTS
-returns-then-slot-ne-SLOTS c =
-    damage_slot _ (sym c.header_good.ensures ∙ c.if-not-header_good.false) (sym c.if-row-ne-ROWS.false ∙ c.bad_row-row.ensures) c.bad_slot-slot.result c.bad_slot-slot.ensures c.if-slot-ne-SLOTS.true
+pub returns-in-Some-bad_slot : goal.returns-in-Some-bad_slot
+returns-in-Some-bad_slot c =
+    let slot = found_some→ slots (bad_slot c.args.w.now) c.in-Some-bad_slot.slot (sym c.in-Some-bad_slot.is ∙ c.bad_slot.ensures) in
+    damage_slot _ (sym c.header_good.ensures ∙ c.if-not-header_good.false) (rows_good c.args.w.now (sym c.in_default.is ∙ c.bad_row.ensures)) c.in-Some-bad_slot.slot slot.0 (λ e. omega arith)
 
 pub returns : goal.returns
 returns c =
-    damage_none _ (sym c.header_good.ensures ∙ c.if-not-header_good.false) (sym c.if-row-ne-ROWS.false ∙ c.bad_row-row.ensures) (sym c.if-slot-ne-SLOTS.false ∙ c.bad_slot-slot.ensures)
+    damage_none _ (sym c.header_good.ensures ∙ c.if-not-header_good.false) (rows_good c.args.w.now (sym c.in_default.is ∙ c.bad_row.ensures))
+    (omega (arith, bad_slot_most c.args.w.now, found_none→ slots (bad_slot c.args.w.now) (sym c.in_default-bad_slot.is ∙ c.bad_slot.ensures)))

@@ -1,8 +1,8 @@
 -- The search for a record that breaks a rule is what is left to search from i on; bits and filter are those of the records below i.
-use mathlib.Core.Path.{◌≡◌, sym, ap, ◌∙◌}
+use mathlib.Core.Path.{sym, ap, ◌∙◌}
 use mathlib.Core.Bool.{not}
 use native.Mathlib.Omega.{arith}
-use Rattle.loops.proofs.Search.{search_start, search_hit, search_miss, search_over}
+use Rattle.loops.proofs.Search.{search_start, search_hit, search_miss, search_over, found_some, found_none}
 use Rattle.bits.specs.Bits.{with_bit}
 use Rattle.bits.proofs.SetBelow.{set_below_zero, set_below_more}
 use Rattle.name_filter.proofs.Names.{names_noted_more}
@@ -21,7 +21,8 @@ loop-i-init c = (
 pub returns-then-not-record_good : goal.returns-then-not-record_good
 returns-then-not-record_good c =
     let L = c.loop-i in
-    (sym (search_hit _ _ _ L.invariant.4 (omega arith) (ap not (sym c.record_good.ensures ∙ c.if-not-record_good.true))), L.invariant.1)
+    let e = search_hit _ _ _ L.invariant.4 (omega arith) (ap not (sym c.record_good.ensures ∙ c.if-not-record_good.true)) in
+    (rw e (sym (found_some c.args.n L.i (omega arith))), rw e L.invariant.1)
 
 pub loop-i-preserved : goal.loop-i-preserved
 loop-i-preserved c =
@@ -36,5 +37,5 @@ loop-i-preserved c =
 pub returns : goal.returns
 returns c =
     let L = c.loop-i in
-    let e : L.i ≡ c.args.n = omega arith in
-    (sym (search_over _ _ _ L.invariant.4 (omega arith) ∙ e), rw (← e) L.invariant.1)
+    let e = search_over _ _ _ L.invariant.4 (omega arith) in
+    (rw e (sym (found_none c.args.n L.i (omega arith))), rw e L.invariant.1)

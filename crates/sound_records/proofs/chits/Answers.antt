@@ -1,27 +1,25 @@
--- What is found so far is the count of the chits below i.
-use mathlib.Core.Path.{◌≡◌, sym, ap, ◌∙◌}
-use native.Mathlib.Omega.{arith}
-use Rattle.loops.specs.Total.{count}
-use Rattle.loops.proofs.Total.{total_zero, total_more, count_le, bit_le}
+-- The closure gives 1 for a chit, and there are no more of them than records.
+use Rattle.std.proofs.Common.{ℕ, ◌∙◌, Bool, eqb, List, ap, arith, rules, tests}
+use Rattle.loops.specs.Total.{bit, count}
+use Rattle.loops.proofs.Chains.{total_over, total_fits}
+use Rattle.loops.proofs.Total.{count_le}
+use Rattle.rules.specs.Layout.{state_of}
 use Rattle.rules.specs.IsSound.{chits}
-use Rattle.sound_records.proofs.chits.Invariants.{is_chit}
 use Rattle.sound_records.proofs.chits.Goals as goal
 
-pub loop-i-init : goal.loop-i-init
-loop-i-init c = (omega arith, sym (total_zero _))
+is_chit : List ℕ → ℕ → Bool
+is_chit w i = eqb (state_of w i) 2
 
-pub overflow_add-found : goal.overflow_add-found
-overflow_add-found c =
-    let S = c.args in
-    let L = c.loop-i in
-    omega (arith, count_le (is_chit S.w.now) L.i, bit_le (is_chit S.w.now L.i))
-
-pub loop-i-preserved : goal.loop-i-preserved
-loop-i-preserved c = (omega arith, rw (total_more, ← c.loop-i.invariant.1, ← c.chit-found.ensures))
+pub sum-requires-clause-fits : goal.sum-requires-clause-fits
+unfolding is_chit
+sum-requires-clause-fits c =
+    let w = c.args.w.now in
+    let few = count_le (is_chit w) c.args.n in
+    total_fits (λ i. bit (is_chit w i)) c.args.n c.map.result c.map.ensures.source c.map.ensures.closure (λ x r q k. search (rules, tests)) _ (omega arith)
 
 pub returns : goal.returns
-unfolding chits
+unfolding chits is_chit
 returns c =
-    let L = c.loop-i in
-    let e : L.i ≡ c.args.n = omega arith in
-    L.invariant.1 ∙ ap (count (is_chit c.args.w.now)) (e ∙ c.requires.counts)
+    let w = c.args.w.now in
+    total_over (λ i. bit (is_chit w i)) c.args.n c.map.result c.map.ensures.source c.map.ensures.closure (λ x r q k. search (rules, tests)) _ c.sum.ensures.ran
+    ∙ ap (count (is_chit w)) c.requires.counts

@@ -11,24 +11,24 @@ use Rattle.text_print.proofs.put_reading.Goals as goal
 
 pub put_signed-end-requires : goal.put_signed-end-requires
 put_signed-end-requires c =
-    let f : SFits w64 c.in-Taken.value = search rules in
-    let e : to_z w64 (of_z w64 c.in-Taken.value) ≡ c.in-Taken.value = to_z-of_z w64 c.in-Taken.value f in
-    rw e (omega (arith, signed_length c.in-Taken.value f))
+    let f : SFits w64 c.in-Ok.value = search rules in
+    let e : to_z w64 (of_z w64 c.in-Ok.value) ≡ c.in-Ok.value = to_z-of_z w64 c.in-Ok.value f in
+    rw e (omega (arith, signed_length c.in-Ok.value f))
 
 pub bounds-out-end : goal.bounds-out-end
 bounds-out-end c =
-    let f : SFits w64 c.in-Taken.value = search rules in
-    let e : to_z w64 (of_z w64 c.in-Taken.value) ≡ c.in-Taken.value = to_z-of_z w64 c.in-Taken.value f in
-    omega (arith, signed_length c.in-Taken.value f, (rw e at c.put_signed-end.ensures).next, c.put_signed-end.auto.out)
+    let f : SFits w64 c.in-Ok.value = search rules in
+    let e : to_z w64 (of_z w64 c.in-Ok.value) ≡ c.in-Ok.value = to_z-of_z w64 c.in-Ok.value f in
+    omega (arith, signed_length c.in-Ok.value f, (rw e at c.put_signed-end.ensures).next, c.put_signed-end.auto.out)
 
 pub overflow_add-result : goal.overflow_add-result
 overflow_add-result c =
-    let f : SFits w64 c.in-Taken.value = search rules in
-    let e : to_z w64 (of_z w64 c.in-Taken.value) ≡ c.in-Taken.value = to_z-of_z w64 c.in-Taken.value f in
-    omega (arith, signed_length c.in-Taken.value f, (rw e at c.put_signed-end.ensures).next, c.well_formed.0.0)
+    let f : SFits w64 c.in-Ok.value = search rules in
+    let e : to_z w64 (of_z w64 c.in-Ok.value) ≡ c.in-Ok.value = to_z-of_z w64 c.in-Ok.value f in
+    omega (arith, signed_length c.in-Ok.value f, (rw e at c.put_signed-end.ensures).next, c.well_formed.0.0)
 
-pub returns-in-Taken : goal.returns-in-Taken
-returns-in-Taken c =
-    let f : SFits w64 c.in-Taken.value = search rules in
-    let e : to_z w64 (of_z w64 c.in-Taken.value) ≡ c.in-Taken.value = to_z-of_z w64 c.in-Taken.value f in
-    rw c.in-Taken.is (put_then (rw e at c.put_signed-end.ensures) (put_one _ _ _))
+pub returns-in-Ok : goal.returns-in-Ok
+returns-in-Ok c =
+    let f : SFits w64 c.in-Ok.value = search rules in
+    let e : to_z w64 (of_z w64 c.in-Ok.value) ≡ c.in-Ok.value = to_z-of_z w64 c.in-Ok.value f in
+    rw c.in-Ok.is (put_then (rw e at c.put_signed-end.ensures) (put_one _ _ _))

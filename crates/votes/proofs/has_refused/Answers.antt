@@ -1,33 +1,14 @@
--- No vote below j is refused: the first refused one is met by the loop, or there is none.
-use Prim.Native.Nat.{ℕ, ◌≤◌, ◌-◌}
-use mathlib.Core.Path.{◌≡◌, sym, ◌∙◌}
-use mathlib.Core.Bool.{Bool}
-use mathlib.Core.List.{List}
-use lib.ListN.{length, get_or}
-use native.Mathlib.Omega.{arith}
+-- Some byte passes the test exactly if some vote is refused.
+use mathlib.Core.Path.{◌∙◌}
 use borrow.Author.Rules.{rules}
-use borrow.Author.Tests.{le-ltb}
-use Rattle.loops.specs.Search.{first}
-use Rattle.loops.proofs.Search.{Searched, search_start, search_miss, search_over, →any}
+use Rattle.std.proofs.lemmas.Iterator.{YieldsList-from_slice}
+use Rattle.std.proofs.lemmas.Iterator.Search.{any_from_yields_List}
+use Rattle.loops.proofs.Elements.{any_elements}
 use Rattle.terms.specs.Votes.{vote_of, is_refused}
-use Rattle.votes.proofs.has_refused.Invariants.{refused_at}
 use Rattle.votes.proofs.has_refused.Goals as goal
-
-pub loop-j-init : goal.loop-j-init
-loop-j-init c = (search rules, search_start _ _)
-
-pub returns-then-is_refused : goal.returns-then-is_refused
-returns-then-is_refused c =
-    let votes = c.args.votes.now in
-    sym (→any (refused_at votes) (length votes) c.loop-j.j (omega arith) (sym c.is_refused.ensures ∙ c.if-is_refused.true))
-
-pub loop-j-preserved : goal.loop-j-preserved
-loop-j-preserved c =
-    let L = c.loop-j in
-    (omega arith, search_miss _ _ _ L.invariant.1 (omega arith) (sym c.is_refused.ensures ∙ c.if-is_refused.false))
 
 pub returns : goal.returns
 returns c =
     let votes = c.args.votes.now in
-    let e : first (refused_at votes) (length votes) ≡ c.loop-j.j = search_over _ _ _ c.loop-j.invariant.1 (omega arith) in
-    sym (le-ltb (first (refused_at votes) (length votes)) (length votes) (omega arith))
+    any_from_yields_List (λ byte. is_refused (vote_of byte)) _ _ _ c.any.ensures.ran (YieldsList-from_slice votes c.iter.ensures.rest) (λ x b q k. search rules)
+    ∙ any_elements _ votes

@@ -1,22 +1,33 @@
--- The state read tells the state word, and its test against 2 computes.
+-- The state read is a chit exactly if the state word is 2.
+use mathlib.Core.Path.{◌≡◌, refl, ap, ◌∙◌}
+use mathlib.Core.Bool.{Bool, true, false}
+use Prim.Native.Nat.{ℕ, zero, suc}
 use native.Mathlib.Omega.{arith}
+use lib.Dec.{eqb}
 use borrow.Author.Rules.{rules}
+use borrow.Author.Tests.{ne_eqb}
+use Rattle.loops.specs.Total.{bit}
+use Rattle.loops.proofs.Elements.{as_bit}
+use Rattle.rules.specs.Layout.{state_of}
+use Rattle.terms.specs.Votes.{state_says}
+use Rattle.terms.specs.declared.vote.State.{State}
 use Rattle.terms.specs.declared.vote.State.TheVariants.{Waiting, NoChit, Chit, Unknown}
-use Rattle.terms.proofs.States.{state_reads, unknown_other}
 use Rattle.words.proofs.chit.Goals as goal
 
-pub returns-in-Waiting : goal.returns-in-Waiting
-returns-in-Waiting c =
-    rw (state_reads Waiting c.field.ensures c.read_state.ensures c.in-Waiting.is)
+abbrev is_chit : State → Bool
+is_chit Waiting = false
+is_chit NoChit = false
+is_chit Chit = true
+is_chit Unknown = false
 
-pub returns-in-NoChit : goal.returns-in-NoChit
-returns-in-NoChit c =
-    rw (state_reads NoChit c.field.ensures c.read_state.ensures c.in-NoChit.is)
+chit_word : (s : ℕ) → is_chit (state_says s) ≡ eqb s 2
+unfolding state_says
+chit_word zero = refl
+chit_word (suc zero) = refl
+chit_word (suc (suc zero)) = refl
+chit_word (suc (suc (suc s))) = rw (ne_eqb (suc (suc (suc s))) 0 (λ e. omega arith), ne_eqb (suc (suc (suc s))) 1 (λ e. omega arith), ne_eqb (suc (suc (suc s))) 2 (λ e. omega arith))
 
-pub returns-in-Chit : goal.returns-in-Chit
-returns-in-Chit c =
-    rw (state_reads Chit c.field.ensures c.read_state.ensures c.in-Chit.is)
-
-pub returns-in-Unknown : goal.returns-in-Unknown
-returns-in-Unknown c =
-    rw (unknown_other 2 (omega arith) (state_reads Unknown c.field.ensures c.read_state.ensures c.in-Unknown.is))
+pub returns : goal.returns
+returns c =
+    let told : c.match-matches.matches ≡ is_chit (state_says (state_of c.args.w.now c.args.i)) = search rules in
+    c.from.ensures ∙ as_bit _ ∙ ap bit (told ∙ chit_word _)

@@ -3,7 +3,6 @@ use mathlib.Core.Path.{◌≡◌, ap, ◌∙◌}
 use Prim.Native.Nat.{◌+◌, ◌*◌, ◌-◌}
 use native.Mathlib.Omega.{arith}
 use lib.ListN.{take, drop}
-use borrow.Author.Rules.{rules}
 use Rattle.loops.proofs.Fill.{from_part}
 use Rattle.rules.specs.Layout.{header_words, record_words, record_at}
 use Rattle.words.proofs.fields.Goals as goal

@@ -1,6 +1,5 @@
 -- The part of the header that starts with k.
 use native.Mathlib.Omega.{arith}
-use borrow.Author.Rules.{rules}
 use Rattle.loops.specs.Fill.{from}
 use Rattle.loops.proofs.Fill.{from_part}
 use Rattle.words.proofs.setting.Goals as goal

@@ -1,4 +1,5 @@
 -- The state read tells the state word, and there the rule computes to what the arm returns.
+use mathlib.Core.Logic.{⊎_elim}
 use borrow.Author.Tests.{lt-leb}
 use Rattle.rules.specs.IsSound.{state_good}
 use Rattle.terms.specs.declared.vote.State.TheVariants.{Waiting, NoChit, Chit, Unknown}
@@ -13,12 +14,10 @@ returns-in-Waiting c =
 pub returns-in-NoChit : goal.returns-in-NoChit
 unfolding state_good
 returns-in-NoChit c =
-    rw (state_reads NoChit c.field.ensures c.read_state.ensures c.in-NoChit.is, c.field-o.ensures, c.header-p.ensures)
-
-pub returns-in-Chit : goal.returns-in-Chit
-unfolding state_good
-returns-in-Chit c =
-    rw (state_reads Chit c.field.ensures c.read_state.ensures c.in-Chit.is, c.field-o.ensures, c.header-p.ensures)
+    ⊎_elim
+    (λ e. rw (state_reads NoChit c.field.ensures c.read_state.ensures e, c.field-o.ensures, c.header-p.ensures))
+    (λ e. rw (state_reads Chit c.field.ensures c.read_state.ensures e, c.field-o.ensures, c.header-p.ensures))
+    c.in-NoChit.is
 
 pub returns-in-Unknown : goal.returns-in-Unknown
 unfolding state_good

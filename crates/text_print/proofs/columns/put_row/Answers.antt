@@ -1,16 +1,17 @@
--- What is left of the row from field j on completes it, and there is room for the fields left.
-use lib.ListN.{get_or}
-use native.Mathlib.Omega.{arith}
-use borrow.Author.Rules.{rules}
+-- The row of the fields left completes the row, and there is room for it.
+use Rattle.std.proofs.Common.{◌<◌, ◌^◌, rules, arith}
 use Rattle.text_print.proofs.Rows.{row_more, row_over, field_length}
 use Rattle.text_print.proofs.columns.put_row.Goals as goal
 
-pub loop-j-preserved : goal.loop-j-preserved
-loop-j-preserved c =
-    let v = get_or c.args.fields.now c.loop-j.j 0 in
-    let p = rw c.end_of.ensures at c.put_field-next.ensures in
-    let fits = c.type_inv.fields c.loop-j.j in
-    (search rules, search rules, omega (arith, c.put_field-next.auto.out), omega (arith, c.put_field-next.auto.out, c.put_field-next.ensures.next, field_length v c.end_of.result fits.fits), row_more c.loop-j.invariant.4 (omega arith) p)
+pub loop-field-preserved : goal.loop-field-preserved
+loop-field-preserved c =
+    let v = c.in-Some.field.now in
+    let fits : v < 2 ^ 64 = search rules in
+    let split = c.in-Some.ensures.cases in (
+      omega (arith, c.put_field-next.auto.out),
+      omega (arith, split.1, c.put_field-next.auto.out, c.put_field-next.ensures.next, field_length v c.end_of.result fits),
+      row_more v c.in-Some.rest.now (rw split.0 at c.loop-field.invariant.2) (rw c.end_of.ensures at c.put_field-next.ensures),
+    )
 
 pub returns : goal.returns
-returns c = row_over c.loop-j.invariant.4 (omega arith)
+returns c = row_over c.loop-field.fields.now c.in_default.ensures.cases c.loop-field.invariant.2
