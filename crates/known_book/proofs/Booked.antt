@@ -3,9 +3,10 @@ use Rattle.std.specs.Prelude.{Err}
 use mathlib.Core.Path.{◌≡◌}
 use mathlib.Core.Bool.{true, false, ◌||◌}
 use mathlib.Core.List.{List}
-use Prim.Native.Nat.{ℕ}
+use Prim.Native.Nat.{ℕ, ◌<◌, ◌≤◌}
 use lib.ListN.{length}
 use lib.Dec.{eqb, leb, ltb}
+use native.Mathlib.Omega.{arith}
 use Rattle.terms.specs.declared.answer.Refusal.TheVariants.{NameTaken, BadSlot, BadParents}
 use Rattle.rules.specs.Layout.{slots, most_parents}
 use Rattle.terms.specs.Answers.{outcome}
@@ -33,3 +34,11 @@ module _ (w : List ℕ) (name slot : ℕ) (parents : List ℕ) (ledger : Ledger 
       pub book_rest : (eqb (length parents) 0 || ltb most_parents (length parents)) ≡ false → parents_call w name slot parents ≡ book_call w name slot parents
       unfolding book_call parents_call
       book_rest p = rw (tested_known, absent, fits, p)
+
+-- ---- what the tests that fail leave
+
+pub slot_lt : (slot : ℕ) → (eqb slot 0 || leb slots slot) ≡ false → slot < slots
+slot_lt slot e = grind arith
+
+pub count_most : (n : ℕ) → (eqb n 0 || ltb most_parents n) ≡ false → n ≤ most_parents
+count_most n e = grind arith

@@ -3,8 +3,10 @@ use Rattle.std.specs.Prelude.{Err}
 use mathlib.Core.Path.{◌≡◌}
 use mathlib.Core.Bool.{true, false}
 use mathlib.Core.List.{List}
-use Prim.Native.Nat.{ℕ}
+use Prim.Native.Nat.{ℕ, ◌<◌, ◌≤◌}
+use native.Mathlib.Omega.{arith}
 use lib.Dec.{eqb}
+use borrow.Author.Tests.{eqb-false}
 use Rattle.terms.specs.declared.answer.Refusal.TheVariants.{UnknownParent, ParentTwice, Full}
 use Rattle.rules.specs.Layout.{most_bookings, bookings}
 use Rattle.terms.specs.Answers.{outcome, done}
@@ -29,3 +31,7 @@ module _ (w : List ℕ) (name slot : ℕ) (parents : List ℕ) where
       pub parents_taken : eqb (bookings w) most_bookings ≡ false → outcome done (booked w name slot parents) ≡ parents_call w name slot parents
       unfolding parents_call
       parents_taken f = rw (known, once, f)
+
+-- what the last test leaves where it fails
+pub not_full : (n : ℕ) → n ≤ most_bookings → eqb n most_bookings ≡ false → n < most_bookings
+not_full n h e = omega (arith, eqb-false n most_bookings e)

@@ -1,4 +1,4 @@
--- A ledger has what raising and settling lean on, and noting and raising leave it so.
+-- A ledger has what raising, settling and clearing lean on, and noting and raising leave it so.
 use mathlib.Core.Path.{◌≡◌, ◌∙◌}
 use mathlib.Core.List.{List}
 use Prim.Native.Nat.{ℕ, ◌<◌}
@@ -12,6 +12,7 @@ use Rattle.rule_laws.proofs.Noted.{length_noted, field_noted_beside, confidence_
 use Rattle.rule_laws.proofs.Raised.{length_raised, field_raised_beside, entry_raised_kept}
 use Rattle.poll_writes.specs.Raising.{Raising}
 use Rattle.poll_writes.specs.Settling.{Settling}
+use Rattle.poll_writes.specs.Clearing.{Clearing}
 
 -- ---- a ledger
 
@@ -32,6 +33,9 @@ module _ {w : List ℕ} (g : Ledger w) where
     counter_fits = λ i l. omega (arith, counter_le w g.sound (slot_of w i) (slot_of_lt w g.sound i l));
   }
 
+  pub Ledger→Clearing : Clearing w (bookings w)
+  Ledger→Clearing = record { whole = g.whole; few = g.sound.bookings_most; slot_fits = slot_of_lt w g.sound }
+
 -- ---- the poll noted, and the members raised
 
 module _ (w : List ℕ) (i state : ℕ) where
@@ -40,6 +44,13 @@ module _ (w : List ℕ) (i state : ℕ) where
     whole = length_noted w i state ∙ h.whole;
     few = h.few;
     confidence_fits = λ j l. rw (confidence_noted w i state j) (h.confidence_fits j l);
+  }
+
+  pub noted_clearing : (n : ℕ) → Clearing w n → Clearing (noted w i state) n
+  noted_clearing n h = record {
+    whole = length_noted w i state ∙ h.whole;
+    few = h.few;
+    slot_fits = λ j l. rw (field_noted_beside w i state j slot_field (omega arith) (omega arith) (omega arith)) (h.slot_fits j l);
   }
 
   pub raised_noted_settling : (m : List ℕ) (n : ℕ) → i < most_bookings → Settling w n → Settling (raised m n (noted w i state)) n
